@@ -1,0 +1,4 @@
+pub mod Sizes
+pub mod Constants
+pub mod Decisions
+pub mod Lent

@@ -1,0 +1,1 @@
+// The tree part of a book. Definitions so far; the code follows.
