@@ -1,2 +1,6 @@
+pub mod Trees
+pub mod TreeAt
 pub mod Rules
 pub mod Admission
+pub mod Index
+pub mod Reader

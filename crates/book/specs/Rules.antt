@@ -2,7 +2,7 @@
 use mathlib.Core.Bool.{Bool, not}
 use Prim.Native.Nat.{ℕ}
 use Rattle.symbols.specs.Symbols.{Symbols, symbolOf, constructorsBefore}
-use Rattle.trees.specs.Trees.{Tree, Trees, treeAt}
+use Rattle.book.specs.Trees.{Tree, Trees, treeAt}
 
 -- its symbols, and a tree for each (exempt for a constructor, which has none)
 pub record Rules : Type 0 where

@@ -1,1 +1,2 @@
-// Admission of a whole book and a whole question. Definitions so far; the code follows.
+// Admission of a whole book and a whole question. The variables of a path so far; the readers follow.
+mod path;

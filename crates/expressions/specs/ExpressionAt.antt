@@ -19,56 +19,64 @@ pub record Left (A : Type 0) : Type 0 where
 abbrev pub leaving : {A : Type 0} → ℕ → A → Left A
 leaving l a = record { what = a; left = l }
 
+abbrev pub leftOf : {A : Type 0} → Left A → ℕ
+leftOf x = x .left
+
 -- a reader of one expression: of a sort, with so many nodes left, at a place
 abbrev pub ExprReader : Type 0
 ExprReader = ℕ → ℕ → ℕ → Reading (Left Expr)
 
--- In bytes of which the part or item ends at e; `base` is 0 in a book and 10 in a question.
-module _ (bs : List ℕ) (base : ℕ) (symbols : Symbols) (e : ℕ) where
-  -- one expression for each of the sorts, in order
-  unfoldable pub rowWith : ExprReader → List ℕ → ℕ → ℕ → Reading (Left Exprs)
-  rowWith expr [] left p = got (leaving left noExprs) p
-  rowWith expr (s ∷ sorts) left p =
-      expr s left p then λ a q.
-      rowWith expr sorts (a .left) q then λ r t.
-      got (leaving (r .left) (moreExprs (a .what) (r .what))) t
+-- "65th node (place: its code)": else reading goes on with one node less left. `base` is 0 in a book and 10 in a question.
+unfoldable pub nodeAt : ℕ → ℕ → ℕ → (ℕ → Reading (Left Expr)) → Reading (Left Expr)
+nodeAt base zero p more = refusal (base + 4) p
+nodeAt base (suc left) p more = more left
 
-  -- "apply, a two-byte symbol, then arguments". "symbol .. not there (place: its first byte)"; "an expression's sort is wrong
-  -- (place: its code)"
-  unfoldable pub applyAt : ExprReader → ExprReader
-  applyAt expr sort left p =
+-- "0 variable, one byte", with the sorts of the variables bound on the path. "variable not there (place: its first byte)"; "an
+-- expression's sort is wrong (place: its code)". The part or item ends at e.
+unfoldable pub variableAt : List ℕ → ℕ → ℕ → List ℕ → ExprReader
+variableAt bs base e vars sort left p =
+    byteAt bs base e (p + 1) then λ x q.
+    refuse base + 4 at p + 1 if leb (length vars) x else λ _.
+    refuse base + 5 at p if not (eqb (getD vars x 0) sort) else λ _.
+    got (leaving left (Expr.var x)) q
+
+-- one expression for each of the sorts, in order
+unfoldable pub rowWith : ExprReader → List ℕ → ℕ → ℕ → Reading (Left Exprs)
+rowWith expr [] left p = got (leaving left noExprs) p
+rowWith expr (s ∷ sorts) left p =
+    expr s left p then λ a q.
+    rowWith expr sorts (a .left) q then λ r t.
+    got (leaving (r .left) (moreExprs (a .what) (r .what))) t
+
+-- "a choice has the sort asked for on both sides"
+unfoldable pub choiceAt : ExprReader → ExprReader
+choiceAt expr sort left p =
+    expr sort left (p + 1) then λ a q.
+    expr sort (a .left) q then λ b t.
+    got (leaving (b .left) (Expr.choice (a .what) (b .what))) t
+
+module _ (bs : List ℕ) (base : ℕ) (symbols : Symbols) (e : ℕ) where
+  -- "1 apply, a two-byte symbol": of the sort asked for. "symbol .. not there (place: its first byte)"
+  unfoldable pub appliedAt : ℕ → ℕ → Reading ℕ
+  appliedAt sort p =
       numberAt bs base e (p + 1) then λ f q.
       refuse base + 4 at p + 1 if leb (length symbols) f else λ _.
       refuse base + 5 at p if not (eqb (symbolOf symbols f .sort) sort) else λ _.
+      got f q
+
+  -- "then arguments"
+  unfoldable pub applyAt : ExprReader → ExprReader
+  applyAt expr sort left p =
+      appliedAt sort p then λ f q.
       rowWith expr (symbolOf symbols f .arguments) left q then λ r t.
       got (leaving (r .left) (Expr.apply f (r .what))) t
 
-  -- "a choice has the sort asked for on both sides"
-  unfoldable pub choiceAt : ExprReader → ExprReader
-  choiceAt expr sort left p =
-      expr sort left (p + 1) then λ a q.
-      expr sort (a .left) q then λ b t.
-      got (leaving (b .left) (Expr.choice (a .what) (b .what))) t
-
-  -- "0 variable, one byte", with the sorts of the variables bound on the path. "variable not there (place: its first byte)"
-  unfoldable pub variableAt : List ℕ → ExprReader
-  variableAt vars sort left p =
-      byteAt bs base e (p + 1) then λ x q.
-      refuse base + 4 at p + 1 if leb (length vars) x else λ _.
-      refuse base + 5 at p if not (eqb (getD vars x 0) sort) else λ _.
-      got (leaving left (Expr.var x)) q
-
-  -- "65th node (place: its code)": else reading goes on with one node less left
-  unfoldable pub nodeAt : ℕ → ℕ → (ℕ → Reading (Left Expr)) → Reading (Left Expr)
-  nodeAt zero p more = refusal (base + 4) p
-  nodeAt (suc left) p more = more left
-
   -- by the code that stands at p; "unknown code (place: its first byte)"
   unfoldable pub codeAt : ExprReader → List ℕ → ℕ → ExprReader
-  codeAt expr vars zero sort left p = variableAt vars sort left p
-  codeAt expr vars (suc zero) sort left p = nodeAt left p (λ l. applyAt expr sort l p)
-  codeAt expr vars (suc (suc zero)) sort left p = nodeAt left p (λ l. choiceAt expr sort l p)
-  codeAt expr vars (suc (suc (suc zero))) sort left p = nodeAt left p (λ l. got (leaving l Expr.fail) (p + 1))
+  codeAt expr vars zero sort left p = variableAt bs base e vars sort left p
+  codeAt expr vars (suc zero) sort left p = nodeAt base left p (λ l. applyAt expr sort l p)
+  codeAt expr vars (suc (suc zero)) sort left p = nodeAt base left p (λ l. choiceAt expr sort l p)
+  codeAt expr vars (suc (suc (suc zero))) sort left p = nodeAt base left p (λ l. got (leaving l Expr.fail) (p + 1))
   codeAt expr vars (suc (suc (suc (suc c)))) sort left p = refusal (base + 4) p
 
   -- The first number bounds how deep expressions stand in expressions: no deeper than there are nodes left, and one for a variable.
@@ -78,8 +86,11 @@ module _ (bs : List ℕ) (base : ℕ) (symbols : Symbols) (e : ℕ) where
       byteAt bs base e p then λ code _.
       codeAt (exprAt depth vars) vars code sort left p
 
-  -- "64 nodes in one expression (variables don't count)"
+  -- "64 nodes in one expression (variables don't count)": a whole expression, with what is left of them
+  unfoldable pub wholeAt : List ℕ → ℕ → ℕ → Reading (Left Expr)
+  wholeAt vars sort p = exprAt (suc mostExpressionNodes) vars sort mostExpressionNodes p
+
   unfoldable pub wholeExprAt : List ℕ → ℕ → ℕ → Reading Expr
   wholeExprAt vars sort p =
-      exprAt (suc mostExpressionNodes) vars sort mostExpressionNodes p then λ x q.
+      wholeAt vars sort p then λ x q.
       got (x .what) q

@@ -1,2 +1,3 @@
 pub mod Expressions
 pub mod ExpressionAt
+pub mod Whose

@@ -1,11 +1,12 @@
 -- The symbol part: bytes to symbols, with the refusals 1 and 3.
-use mathlib.Core.Bool.{Bool, true, false, not}
+use mathlib.Core.Bool.{true, false, not}
 use mathlib.Core.List.{List, [], _∷_}
 use Prim.Native.Nat.{ℕ, zero, suc, _+_, _-_}
 use lib.Dec.{leb, ltb, eqb}
-use lib.ListN.{getD}
-use Rattle.limits.specs.Sizes.{mostSymbols, mostArguments, lastSort}
+use lib.ListN.{length, getD}
+use Rattle.limits.specs.Sizes.{mostBookBytes, mostSymbols, mostArguments, lastSort}
 use Rattle.reading.specs.Reading.{Reading, got, _then_, refuse_at_if_else_}
+use Rattle.reading.specs.Bytes.{byteAt, lengthAt}
 use Rattle.symbols.specs.Symbols.{Symbol, Symbols}
 
 module _ (bs : List ℕ) where
@@ -46,3 +47,21 @@ module _ (bs : List ℕ) where
         symbolsAt bound e (suc before) q then λ rest r.
         got (x ∷ rest) r
   ]
+
+  -- "A book is a version byte 1, the symbol part, the tree part": the end of the symbol part, and the place of its first symbol.
+  -- "book over its size (place 0)"; "version byte is not 1 (place: 0)"; "no symbols (place: the part's length)"
+  unfoldable pub opened : Reading ℕ
+  opened =
+      let size = length bs in
+      refuse 1 at 0 if ltb mostBookBytes size else λ _.
+      byteAt bs 0 size 0 then λ version p.
+      refuse 2 at 0 if not (eqb version 1) else λ _.
+      lengthAt bs 0 size p then λ e q.
+      refuse 3 at p if eqb q e else λ _.
+      got e q
+
+  -- the symbols of a book
+  unfoldable pub symbolPart : Reading Symbols
+  symbolPart =
+      opened then λ e p.
+      symbolsAt (e - p) e 0 p

@@ -1,0 +1,3 @@
+pub mod AtPlace
+pub mod Keeping
+pub mod Good

@@ -1,0 +1,4 @@
+pub mod Tables
+pub mod Ranks
+pub mod Parts
+pub mod PartWays

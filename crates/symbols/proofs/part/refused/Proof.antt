@@ -1,0 +1,12 @@
+-- `refused` meets its contract: both arrays are zeros.
+use mathlib.Core.Path.{refl}
+use Rattle.symbols.specs.Table.{inArray}
+use Rattle.symbols.proofs.part.refused.Statement.{statement}
+use Rattle.symbols.proofs.part.refused.Tie as tie
+
+returns : tie.Need-returns
+unfolding inArray
+returns c = (refl, refl, refl)
+
+pub refused-spec : {M : Type 1} → statement M
+refused-spec = tie.close (tie.spec returns)

@@ -1,1 +1,0 @@
-// The tree part of a book. Definitions so far; the code follows.
