@@ -33,9 +33,10 @@ module _ (bs : List ℕ) (S : Symbols) (sort e : ℕ) (tree : List ℕ → ℕ �
   module _ (whole : Reading Trees) (from : ℕ) (was : List ℕ) where
     -- at first nothing is read
     pub onward-first : {p : ℕ} {is : List ℕ} (rest : Reading Trees) → rest ≡ whole → p ≡ from → is ≡ was → Onward whole from was rest p is
-    onward-first rest e f g = record
-      { refused = λ c q r. sym e ∙ r
-      ; read = λ ts q r. (ts, sym e ∙ r, ap (λ (k : ℕ). markTrees k ts was) (sym f) ∙ ap (markTrees _ ts) (sym g)) }
+    onward-first rest e f g = record {
+      refused = λ c q r. sym e ∙ r;
+      read = λ ts q r. (ts, sym e ∙ r, ap (λ (k : ℕ). markTrees k ts was) (sym f) ∙ ap (markTrees _ ts) (sym g));
+    }
 
     -- a symbol that is no case
     pub onward-past : (x : Symbol) (rest : Symbols) (p : ℕ) (is : List ℕ) → isConstructorOf branch x ≡ false
@@ -48,11 +49,12 @@ module _ (bs : List ℕ) (S : Symbols) (sort e : ℕ) (tree : List ℕ → ℕ �
         → tree (x .arguments) p ≡ got t q → q ≡ p + treeBytes t → now ≡ markTree p t is
         → Onward whole from was (casesOf (x ∷ rest) p) p is → Onward whole from was (casesOf rest q) q now
     unfolding markTrees
-    onward-read x rest p q is now t case r s m on = record
-      { refused = λ c k z. on .refused c k (case-first x rest p case ∙ then-got _ r ∙ then-refusal _ z)
-      ; read = λ ts k z.
+    onward-read x rest p q is now t case r s m on = record {
+      refused = λ c k z. on .refused c k (case-first x rest p case ∙ then-got _ r ∙ then-refusal _ z);
+      read = λ ts k z.
           let w = on .read (moreTrees t ts) k (case-first x rest p case ∙ then-got _ r ∙ then-got _ z) in
-          (w .0, w .1, w .2 ∙ ap (λ (i : ℕ). markTrees i ts (markTree p t is)) (sym s) ∙ ap (markTrees q ts) (sym m)) }
+          (w .0, w .1, w .2 ∙ ap (λ (i : ℕ). markTrees i ts (markTree p t is)) (sym s) ∙ ap (markTrees q ts) (sym m));
+    }
 
     -- a case that is refused
     pub onward-refused : (x : Symbol) (rest : Symbols) (p : ℕ) (is : List ℕ) (c q : ℕ) → isConstructorOf branch x ≡ true

@@ -110,9 +110,10 @@ module _ (bs : List ℕ) (S : Symbols) (e : ℕ) where
           by (got ts q) found =
               let whole : treesOf bs S e (x ∷ rest) p ≡ got (moreTrees exempt ts) q = rw (none, treesOf) (then-got _ found) in
               let index = rw (found, Indexed) at (next .index) in
-              record
-              { answer = next .answer ∙ rw (found, whole, keeping)
-              ; index = rw (whole, Indexed) (index .0 ∙ rw (none, rootsFrom), index .1 ∙ rw (none, endsFrom)) }
+              record {
+                answer = next .answer ∙ rw (found, whole, keeping);
+                index = rw (whole, Indexed) (index .0 ∙ rw (none, rootsFrom), index .1 ∙ rw (none, endsFrom));
+              }
           by (refusal c q) found =
               let whole : treesOf bs S e (x ∷ rest) p ≡ refusal c q = rw (none, treesOf) (then-refusal _ found) in
               record { answer = next .answer ∙ rw (found, whole, keeping); index = rw (whole, Indexed) tt }
@@ -131,17 +132,21 @@ module _ (bs : List ℕ) (S : Symbols) (e : ℕ) where
         where
           t : (a : Tree) × (itemAt bs S e x p ≡ got a q) × (v ≡ 0)
           t = kept-got nothing _ (told .answer)
+
           size : q ≡ p + 2 + treeBytes (t .0)
           size = good-got (item-extent bs S e x p) (t .1) .size
+
           by : (k : Reading Trees) → treesOf bs S e rest q ≡ k → Listed p f (x ∷ rest) r info info′ ends ends′
           by (got ts u) found =
               let whole : treesOf bs S e (x ∷ rest) p ≡ got (moreTrees (t .0) ts) u = operation-first x rest p operation ∙ then-got _ (t .1) ∙ then-got _ found in
               let index = rw (found, Indexed) at (next .index) in
-              record
-              { answer = next .answer ∙ rw (found, whole, keeping)
-              ; index = rw (whole, Indexed) 
-                (index .0 ∙ roots-more p f x rest (t .0) ts info operation size
-                , index .1 ∙ ap (endsFrom q rest ts) (marked-tree (p + 2) ends mid (t .1) (told .marks)) ∙ ends-more p f x rest (t .0) ts ends operation size) }
+              record {
+                answer = next .answer ∙ rw (found, whole, keeping);
+                index = rw (whole, Indexed) (
+                  index .0 ∙ roots-more p f x rest (t .0) ts info operation size,
+                  index .1 ∙ ap (endsFrom q rest ts) (marked-tree (p + 2) ends mid (t .1) (told .marks)) ∙ ends-more p f x rest (t .0) ts ends operation size,
+                );
+              }
           by (refusal c u) found =
               let whole : treesOf bs S e (x ∷ rest) p ≡ refusal c u = operation-first x rest p operation ∙ then-got _ (t .1) ∙ then-refusal _ found in
               record { answer = next .answer ∙ rw (found, whole, keeping); index = rw (whole, Indexed) tt }
@@ -194,8 +199,9 @@ module _ (bs : List ℕ) (S : Symbols) (p : ℕ) (info′ info ends′ ends : Li
           let whole : treePart bs S p ≡ got (ts .0) r = then-got _ (sym opened) ∙ then-got _ (ts .1) ∙ passes _ _ (le-ltb r e h) ∙ passes _ _ (le-ltb r (length bs) l) in
           let there = good-got (length-good bs 0 (length bs) p) (sym opened) .0 in
           let index = indexed-read q 0 S info′ info ends′ ends (ts .1) (listed .index) in
-          record
-          { answer = sym (ap (keeping nothing) whole)
-          ; index = read-indexed (p + 2) 0 S info′ info ends′ ends whole
-              (index .0 ∙ ap (λ (k : ℕ). rootsFrom k 0 S (ts .0) info′) there)
-              (index .1 ∙ ap (λ (k : ℕ). endsFrom k S (ts .0) ends′) there) }
+          record {
+            answer = sym (ap (keeping nothing) whole);
+            index = read-indexed (p + 2) 0 S info′ info ends′ ends whole
+                (index .0 ∙ ap (λ (k : ℕ). rootsFrom k 0 S (ts .0) info′) there)
+                (index .1 ∙ ap (λ (k : ℕ). endsFrom k S (ts .0) ends′) there);
+          }

@@ -45,7 +45,7 @@ module _ (bs : List ℕ) (S : Symbols) (sort e : ℕ) where
   code-extent tree reads zero vars done p h = good {a = Tree.exempt} {p = p + 1} (record { size = refl; within = omega arith })
   code-extent tree reads (suc zero) vars done p h =
       then-good {P = λ x q. (q ≡ p + 1 + exprBytes x) × (q ≤ e)}
-        (then-good (whole-extent bs 0 S e vars sort (p + 1)) λ x q is. good (is .size, is .within)) λ x q is.
+      (then-good (whole-extent bs 0 S e vars sort (p + 1)) λ x q is. good (is .size, is .within)) λ x q is.
       good (record { size = omega (arith, is .0); within = is .1 })
   code-extent tree reads (suc (suc zero)) vars done p h =
       then-good (branched-extent vars done (p + 1)) λ x q is.

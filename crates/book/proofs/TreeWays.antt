@@ -107,6 +107,6 @@ module _ (bs : List ℕ) (S : Symbols) (sort e : ℕ) (vars done : List ℕ) (p 
         let row = good-got (row-extent bs S sort e (within x) (λ sorts k. tree-extent bs S sort e depth (vars ++ sorts) (x ∷ done) k) _ q (behind .1)) (ts .1) in
         let there : q ≡ p + 2 = omega (arith, behind .0) in
         told-read p was _ (branch x (ts .0)) n (by-code depth h ∙ rw c (then-got _ (sym var) ∙ then-got _ (ts .1)))
-          (ap₂ (λ (m : List ℕ) (k : ℕ). set m p k) (marked-read q was is (ts .1) marked ∙ ap (λ (k : ℕ). markTrees k (ts .0) was) there) (omega (arith, behind .0, row .size)))
+        (ap₂ (λ (m : List ℕ) (k : ℕ). set m p k) (marked-read q was is (ts .1) marked ∙ ap (λ (k : ℕ). markTrees k (ts .0) was) there) (omega (arith, behind .0, row .size)))
     branch-read x q (Refusal k j) is c var told marked =
         told-refused p was _ (by-code depth h ∙ rw c (then-got _ (sym var) ∙ then-refusal _ (kept-refusal nothing (cases x q) told)))

@@ -2,3 +2,4 @@ pub mod Tables
 pub mod Ranks
 pub mod Parts
 pub mod PartWays
+pub mod Chains

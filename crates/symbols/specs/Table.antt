@@ -2,13 +2,13 @@
 use mathlib.Core.Bool.{true, false}
 use mathlib.Core.List.{List, [], _∷_, _++_, map}
 use mathlib.Core.Path.{_≡_}
-use Prim.Native.Nat.{ℕ, suc, _+_, _-_}
+use Prim.Native.Nat.{ℕ, zero, suc, _+_, _-_}
 use lib.Dec.{eqb}
 use lib.ListN.{length, getD, take, drop, replicate}
 use lib.Seq.{sets}
 use Rattle.limits.specs.Sizes.{mostSymbols}
 use Rattle.reading.specs.Reading.{Reading, got, refusal}
-use Rattle.symbols.specs.Symbols.{Symbol, Symbols, constructorsBefore}
+use Rattle.symbols.specs.Symbols.{Symbol, Symbols, isConstructorOf, constructorsBefore}
 
 -- the symbol whose length byte stands at p
 unfoldable pub symbolIn : List ℕ → ℕ → Symbol
@@ -57,3 +57,28 @@ ranksFrom symbols f (x ∷ rest) = elim (x .isOperation) [
 unfoldable pub ranksAfter : Reading Symbols → List ℕ
 ranksAfter (got symbols p) = inArray (ranksFrom symbols 0 symbols)
 ranksAfter (refusal c p) = inArray []
+
+-- The constructors of a sort are chained, so that a branch looks at them alone: from `rest` on, whose first symbol is number f, the
+-- number of the first constructor of the sort, or the number behind the last symbol.
+unfoldable pub firstFrom : ℕ → Symbols → ℕ → ℕ
+firstFrom s [] f = f
+firstFrom s (x ∷ rest) f = elim (isConstructorOf s x) [ true ↦ f | false ↦ firstFrom s rest (suc f) ]
+
+-- the number of the next constructor of each symbol's sort
+unfoldable pub nextsFrom : Symbols → ℕ → List ℕ
+nextsFrom [] f = []
+nextsFrom (x ∷ rest) f = firstFrom (x .sort) rest (suc f) ∷ nextsFrom rest (suc f)
+
+-- the number of the first constructor of each of so many sorts, from sort s on
+unfoldable pub firstsFrom : Symbols → ℕ → ℕ → List ℕ
+firstsFrom symbols zero s = []
+firstsFrom symbols (suc n) s = firstFrom s symbols 0 ∷ firstsFrom symbols n (suc s)
+
+-- both arrays after the symbol part was read; zeros if it was refused
+unfoldable pub nextsAfter : Reading Symbols → List ℕ
+nextsAfter (got symbols p) = inArray (nextsFrom symbols 0)
+nextsAfter (refusal c p) = inArray []
+
+unfoldable pub firstsAfter : Reading Symbols → List ℕ
+firstsAfter (got symbols p) = firstsFrom symbols 256 0
+firstsAfter (refusal c p) = replicate 256 0

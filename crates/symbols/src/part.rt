@@ -2,13 +2,13 @@
 ghost use mathlib.Core.Path.{_≡_};
 ghost use Prim.Native.Nat.{ℕ, _+_, _-_, _<_, _≤_};
 ghost use mathlib.Core.List.{[]};
-ghost use lib.ListN.{length, getD};
+ghost use lib.ListN.{length, getD, replicate};
 ghost use Rattle.reading.specs.declared.Reading.the-variants.{Refusal};
 ghost use Rattle.limits.specs.Sizes.{mostBookBytes, mostSymbols};
 ghost use Rattle.reading.specs.Answer.{readingOf, keeping, nothing};
 ghost use Rattle.symbols.specs.Symbols.{Symbols};
 ghost use Rattle.symbols.specs.SymbolPart.{sortsAt, symbolAt, symbolsAt, opened, symbolPart};
-ghost use Rattle.symbols.specs.Table.{symbolsIn, counted, PlacedAfter, ranksFrom, inArray, placesAfter, ranksAfter};
+ghost use Rattle.symbols.specs.Table.{symbolsIn, counted, PlacedAfter, ranksFrom, nextsFrom, firstsFrom, inArray, placesAfter, ranksAfter, nextsAfter, firstsAfter};
 use super::table::is_operation;
 use super::table::sort_of;
 use limits::Limits;
@@ -19,12 +19,21 @@ use reading::byte_at;
 use reading::length_at;
 use reading::wide_byte;
 
-// The symbol part of a book: how many symbols there are and the place behind them, or the refusal; the place of each symbol; and
-// which of its sort's constructors each is. After a refusal both arrays are zeros.
+// The symbol part of a book: how many symbols there are and the place behind them, or the refusal; the place of each symbol; which of
+// its sort's constructors each is; and the chains of constructors. After a refusal all arrays are zeros.
 pub struct SymbolPart {
     pub reading: Reading,
     pub at: [u16; Limits::SYMBOLS],
     pub ranks: [u16; Limits::SYMBOLS],
+    pub next: [u16; Limits::SYMBOLS],
+    pub first: [u16; 256],
+}
+
+// The constructors of each sort, chained: the number of the next one behind each symbol, and of the first of each sort. Where there is
+// none it is the count of symbols.
+pub struct Chain {
+    pub next: [u16; Limits::SYMBOLS],
+    pub first: [u16; 256],
 }
 
 // n argument sorts from p on: the place behind them.
@@ -174,18 +183,39 @@ fn ranks_of(book: &[u8], at: &[u16]) -> [u16; Limits::SYMBOLS]
     ranks
 }
 
+// Chains the constructors of each sort, from the last symbol to the first.
+fn chain_of(book: &[u8], at: &[u16]) -> Chain
+    requires { ⌜ length (now at) ≤ mostSymbols ⌝ }
+    ensures { λ r. ⌜ (r .next ≡ inArray (nextsFrom (symbolsIn (now (book .entry)) (now (at .entry))) 0)) × (r .first ≡ firstsFrom (symbolsIn (now (book .entry)) (now (at .entry))) 256 0) ⌝ }
+{
+    let mut next = [0u16; Limits::SYMBOLS];
+    let mut first = [at.len() as u16; 256];
+    let mut f = at.len();
+    while f != 0 {
+        f -= 1;
+        let s = sort_of(book, at, f) as usize;
+        next[f] = first[s];
+        if !is_operation(book, at, f) {
+            first[s] = f as u16;
+        }
+    }
+    Chain { next, first }
+}
+
 fn refused(number: u8, place: usize) -> SymbolPart
-    ensures { λ r. ⌜ (r .reading ≡ Refusal number place) × (r .at ≡ inArray []) × (r .ranks ≡ inArray []) ⌝ }
+    ensures { λ r. ⌜ (r .reading ≡ Refusal number place) × (r .at ≡ inArray []) × (r .ranks ≡ inArray []) × (r .next ≡ inArray []) × (r .first ≡ replicate 256 0) ⌝ }
 {
     SymbolPart {
         reading: Reading::Refusal { number, place },
         at: [0; Limits::SYMBOLS],
         ranks: [0; Limits::SYMBOLS],
+        next: [0; Limits::SYMBOLS],
+        first: [0; 256],
     }
 }
 
 pub fn read_symbol_part(book: &[u8]) -> SymbolPart
-    ensures { λ r. ⌜ (readingOf (r .reading) ≡ keeping length (symbolPart (now (book .entry)))) × (r .at ≡ placesAfter (symbolPart (now (book .entry)))) × (r .ranks ≡ ranksAfter (symbolPart (now (book .entry)))) ⌝ }
+    ensures { λ r. ⌜ (readingOf (r .reading) ≡ keeping length (symbolPart (now (book .entry)))) × (r .at ≡ placesAfter (symbolPart (now (book .entry)))) × (r .ranks ≡ ranksAfter (symbolPart (now (book .entry)))) × (r .next ≡ nextsAfter (symbolPart (now (book .entry)))) × (r .first ≡ firstsAfter (symbolPart (now (book .entry)))) ⌝ }
 {
     match open_part(book) {
         Reading::Refusal { number, place } => refused(number, place),
@@ -195,10 +225,15 @@ pub fn read_symbol_part(book: &[u8]) -> SymbolPart
                 Reading::Refusal { number, place } => refused(number, place),
                 Reading::Got { value: count, next } => {
                     let ranks = ranks_of(book, &at[0..count]);
+                    let chain = chain_of(book, &at[0..count]);
+                    let next_of = chain.next;
+                    let first = chain.first;
                     SymbolPart {
                         reading: Reading::Got { value: count, next },
                         at,
                         ranks,
+                        next: next_of,
+                        first,
                     }
                 }
             }

@@ -1,4 +1,4 @@
--- `read_symbol_part` meets its contract: the part is opened, its symbols are read, and the ranks are those of the symbols that the places mean.
+-- `read_symbol_part` meets its contract: the part is opened, its symbols are read, and ranks and chains are those of the symbols that the places mean.
 use mathlib.Core.Path.{_≡_, sym, ap, _∙_}
 use mathlib.Core.List.{List}
 use Prim.Native.Nat.{ℕ}
@@ -9,12 +9,14 @@ use Rattle.reading.specs.declared.Reading.the-variants.{Got}
 use Rattle.reading.specs.Answer.{readingOf}
 use Rattle.symbols.specs.SymbolPart.{opened}
 use Rattle.symbols.proofs.Parts.{opened-got}
-use Rattle.symbols.proofs.PartWays.{PartKept, part-refused, opening-refused, symbol-refused, part-kept, part-read}
+use Rattle.symbols.proofs.PartWays.{PartKept, opening-refused, symbol-refused, part-kept}
+use Rattle.symbols.proofs.Chains.{whole-refused, whole-read}
 use borrow.Author.Needs.{needs}
 use Rattle.symbols.proofs.part.read_symbol_part.Statement.{statement}
 use Rattle.symbols.proofs.part.read_symbol_part.Tie as tie
 use Rattle.symbols.proofs.part.read_symbol_part.Reads as reads
 use Rattle.symbols.proofs.part.read_symbol_part.Lts as lts
+use Rattle.symbols.proofs.part.chain_of.Reads as chain-of-reads
 use Rattle.symbols.proofs.part.open_part.Reads as open-part-reads
 use Rattle.symbols.proofs.part.ranks_of.Reads as ranks-of-reads
 use Rattle.symbols.proofs.part.read_symbols.Reads as read-symbols-reads
@@ -31,6 +33,8 @@ AfterSymbols = lts.After-read-symbols (
   read-symbols-reads.Learnt,
   ranks-of-reads.Asked,
   ranks-of-reads.Learnt,
+  chain-of-reads.Asked,
+  chain-of-reads.Learnt,
 ) reads.Pre reads.Post
 
 module _ (c : AfterSymbols) where
@@ -89,24 +93,43 @@ ranks-of-requires c κs =
     let known = kept (c .before .before .before .before .before) (c .before .before .before .count .given .1) in
     simp length-take (omega (arith, known .long))
 
+sub-chain-of : tie.Need-sub-chain-of
+sub-chain-of c = search needs
+
+part-chain-of-start : tie.Need-part-chain-of-start
+part-chain-of-start c = search needs
+
+part-chain-of-end : tie.Need-part-chain-of-end
+part-chain-of-end c =
+    let known = kept (c .before .before .before .before .before .before .before) (c .before .before .before .before .before .count .given .1) in
+    omega (arith, known .few, known .long)
+
+chain-of-requires : tie.Need-chain-of-requires
+chain-of-requires c κs =
+    let known = kept (c .before .before .before .before .before .before .before .before) (c .before .before .before .before .before .before .count .given .1) in
+    simp length-take (omega (arith, known .long))
+
 returns : tie.Need-returns
 returns c =
     let book = c .before .before .before .before .before .before .args .book .now in
     let refusal = ap readingOf (sym (c .before .before .number .given .1)) ∙ c .before .before .before .before .open-part .ensures in
     let answer = c .refused .ensures in
-    part-refused book (opening-refused book refusal) (ap readingOf (answer .0)) (answer .1) (answer .2)
+    whole-refused book (opening-refused book refusal) (ap readingOf (answer .0)) (answer .1) (answer .2) (answer .3) (answer .4)
 
 returns-2 : tie.Need-returns-2
 returns-2 c =
     let read = c .before .before .before .before in
     let refusal = symbol-refused (book read) (places read) (start read) (ap readingOf (sym (c .before .before .number2 .given .1))) (read .read-symbols .ensures) in
     let answer = c .refused2 .ensures in
-    part-refused (book read) refusal (ap readingOf (answer .0)) (answer .1) (answer .2)
+    whole-refused (book read) refusal (ap readingOf (answer .0)) (answer .1) (answer .2) (answer .3) (answer .4)
 
 returns-3 : tie.Need-returns-3
 returns-3 c =
-    let read = c .before .before .before .before .before .before in
-    part-read (book read) (kept read (c .before .before .before .before .count .given .1)) (rw sub-zero at (c .ranks-of .ensures))
+    let ranked = c .before .before .before .before .before in
+    let read = ranked .before .before .before .before .before .before in
+    let known = kept read (ranked .before .before .before .before .count .given .1) in
+    let chains = rw sub-zero at (c .before .before .chain-of .ensures) in
+    whole-read (book read) known (rw sub-zero at (ranked .ranks-of .ensures)) (chains .0) (chains .1)
 
 pub read-symbol-part-spec : {M : Type 1} → statement M
 read-symbol-part-spec =
@@ -124,6 +147,10 @@ read-symbol-part-spec =
     part-ranks-of-start
     part-ranks-of-end
     ranks-of-requires
+    sub-chain-of
+    part-chain-of-start
+    part-chain-of-end
+    chain-of-requires
     returns
     returns-2
     returns-3)

@@ -1,4 +1,4 @@
--- `refused` meets its contract: both arrays are zeros.
+-- `refused` meets its contract: all arrays are zeros.
 use mathlib.Core.Path.{refl}
 use Rattle.symbols.specs.Table.{inArray}
 use Rattle.symbols.proofs.part.refused.Statement.{statement}
@@ -6,7 +6,7 @@ use Rattle.symbols.proofs.part.refused.Tie as tie
 
 returns : tie.Need-returns
 unfolding inArray
-returns c = (refl, refl, refl)
+returns c = (refl, refl, refl, refl, refl)
 
 pub refused-spec : {M : Type 1} → statement M
 refused-spec = tie.close (tie.spec returns)

@@ -40,9 +40,15 @@ loop-less c = search needs
 loop-again : tie.Need-loop-again Inv-loop μ-loop
 loop-again c =
     let l = c .before .before .loop in
-    let a = c .before .before .before .args in
-    (omega arith, l .inv .1, l .inv .2, l .inv .3, l .inv .4, l .inv .5,
-    copy-more (a .self .sorts) (a .sorts .now) (a .self .bound) (l .path .sorts) (l .j) 0 (l .inv .6) (omega arith) (omega arith))
+    let a = c .before .before .before .args in (
+      omega arith,
+      l .inv .1,
+      l .inv .2,
+      l .inv .3,
+      l .inv .4,
+      l .inv .5,
+      copy-more (a .self .sorts) (a .sorts .now) (a .self .bound) (l .path .sorts) (l .j) 0 (l .inv .6) (omega arith) (omega arith),
+    )
 
 add-path-2 : tie.Need-add-path-2 Inv-loop μ-loop
 add-path-2 c = search needs

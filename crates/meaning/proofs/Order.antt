@@ -1,0 +1,198 @@
+-- The order of partial values, and that all that readings are made of respects it: whoever knows more of the variables, or of the nodes, can give
+-- at least as much.
+use mathlib.Core.Bool.{Bool, true, false}
+use mathlib.Core.Path.{_≡_, refl, ap, ap₂}
+use mathlib.Core.Logic.{_⊎_, inl, inr, _↔_, Iff·rfl}
+use mathlib.Core.List.{List, [], _∷_, _++_, map}
+use Prim.Native.Nat.{ℕ, zero, suc}
+use native.Mathlib.Omega.{arith}
+use lib.ListN.{length, getD}
+use Rattle.expressions.specs.Expressions.{Expr, Exprs}
+use Rattle.book.specs.Trees.{Tree}
+use Rattle.book.specs.Rules.{Book}
+use Rattle.nodes.specs.Nodes.{Node, apply, choice, fail, forward, at}
+use Rattle.rewriting.specs.Rewriting.{Value, Values, con, noValues, moreValues}
+use Rattle.meaning.specs.Partial.{Part, Parts, bot, noParts, moreParts, toList, ofList, _⊑_, bot⊑, con⊑, _⊑*_, none⊑, more⊑, Hits, Gives, GivesRow}
+use Rattle.meaning.specs.Readings.{Side, sideOf, OperationGives, ApplyAgrees, Agrees, whole, wholes}
+
+mutual
+  pub ⊑-refl : (p : Part) → p ⊑ p
+  ⊑-refl bot = bot⊑
+  ⊑-refl (Part.con c ps) = con⊑ (⊑*-refl ps)
+
+  pub ⊑*-refl : (ps : Parts) → ps ⊑* ps
+  ⊑*-refl noParts = none⊑
+  ⊑*-refl (moreParts p ps) = more⊑ (⊑-refl p) (⊑*-refl ps)
+
+mutual
+  pub ⊑-trans : {p q r : Part} → p ⊑ q → q ⊑ r → p ⊑ r
+  ⊑-trans bot⊑ k = bot⊑
+  ⊑-trans (con⊑ h) (con⊑ k) = con⊑ (⊑*-trans h k)
+
+  pub ⊑*-trans : {ps qs rs : Parts} → ps ⊑* qs → qs ⊑* rs → ps ⊑* rs
+  ⊑*-trans none⊑ k = k
+  ⊑*-trans (more⊑ h hs) (more⊑ k ks) = more⊑ (⊑-trans h k) (⊑*-trans hs ks)
+
+pub ⊑-of-eq : {p q : Part} → p ≡ q → p ⊑ q
+⊑-of-eq {p} {q} e = rw e (⊑-refl q)
+
+pub ⊑-bot : {p : Part} → p ⊑ bot → p ≡ bot
+⊑-bot bot⊑ = refl
+
+-- what says at least that it is a c, is one
+pub ⊑-con : {c : ℕ} {ps : Parts} {q : Part} → Part.con c ps ⊑ q → (qs : Parts) × (q ≡ Part.con c qs) × ps ⊑* qs
+⊑-con (con⊑ {qs = rs} h) = (rs, refl, h)
+
+pub con⊑-same : {c d : ℕ} {ps qs : Parts} → Part.con c ps ⊑ Part.con d qs → (c ≡ d) × ps ⊑* qs
+con⊑-same (con⊑ h) = (refl, h)
+
+pub con≢bot : {c : ℕ} {ps : Parts} → Part.con c ps ⊑ bot → ⊥
+con≢bot h = let e = ⊑-bot h in let z : _≡_ {A = ℕ} 0 1 = cc in omega arith
+
+-- nothing is above a whole value
+mutual
+  unfolding whole
+
+  pub ⊑-whole : (v : Value) {p : Part} → whole v ⊑ p → p ≡ whole v
+  ⊑-whole (con c vs) (con⊑ h) = ap (Part.con c) (⊑*-wholes vs h)
+
+  pub ⊑*-wholes : (vs : Values) {ps : Parts} → wholes vs ⊑* ps → ps ≡ wholes vs
+  ⊑*-wholes noValues none⊑ = refl
+  ⊑*-wholes (moreValues v vs) (more⊑ h hs) = ap₂ moreParts (⊑-whole v h) (⊑*-wholes vs hs)
+
+-- the same order of lists, element by element
+infix 40 _⊑ˡ_
+infixr 67 _∷⊑_
+pub data _⊑ˡ_ : List Part → List Part → Type 0 where
+  []⊑ : [] ⊑ˡ []
+  _∷⊑_ : {p q : Part} {ps qs : List Part} → p ⊑ q → ps ⊑ˡ qs → p ∷ ps ⊑ˡ q ∷ qs
+
+-- and of what stands for the nodes
+infix 40 _⊑ᶠ_
+abbrev pub _⊑ᶠ_ : (ℕ → Part) → (ℕ → Part) → Type 0
+π ⊑ᶠ σ = (n : ℕ) → π n ⊑ σ n
+
+pub ⊑ˡ-refl : (ps : List Part) → ps ⊑ˡ ps
+⊑ˡ-refl [] = []⊑
+⊑ˡ-refl (p ∷ ps) = ⊑-refl p ∷⊑ ⊑ˡ-refl ps
+
+pub ⊑ˡ-trans : {ps qs rs : List Part} → ps ⊑ˡ qs → qs ⊑ˡ rs → ps ⊑ˡ rs
+⊑ˡ-trans []⊑ k = k
+⊑ˡ-trans (h ∷⊑ hs) (k ∷⊑ ks) = ⊑-trans h k ∷⊑ ⊑ˡ-trans hs ks
+
+pub ⊑ˡ-length : {ps qs : List Part} → ps ⊑ˡ qs → length ps ≡ length qs
+⊑ˡ-length []⊑ = refl
+⊑ˡ-length (h ∷⊑ hs) = ap suc (⊑ˡ-length hs)
+
+pub getD-mono : {ps qs : List Part} → ps ⊑ˡ qs → (x : ℕ) → getD ps x bot ⊑ getD qs x bot
+getD-mono []⊑ x = bot⊑
+getD-mono (h ∷⊑ hs) zero = h
+getD-mono (h ∷⊑ hs) (suc x) = getD-mono hs x
+
+pub append-mono : {ps qs rs ss : List Part} → ps ⊑ˡ qs → rs ⊑ˡ ss → ps ++ rs ⊑ˡ qs ++ ss
+append-mono []⊑ k = k
+append-mono (h ∷⊑ hs) k = h ∷⊑ append-mono hs k
+
+pub map-mono : {π σ : ℕ → Part} → π ⊑ᶠ σ → (xs : List ℕ) → map π xs ⊑ˡ map σ xs
+map-mono h [] = []⊑
+map-mono h (x ∷ xs) = h x ∷⊑ map-mono h xs
+
+pub toList-mono : {ps qs : Parts} → ps ⊑* qs → toList ps ⊑ˡ toList qs
+unfolding toList
+toList-mono none⊑ = []⊑
+toList-mono (more⊑ h hs) = h ∷⊑ toList-mono hs
+
+pub ofList-mono : {ps qs : List Part} → ps ⊑ˡ qs → ofList ps ⊑* ofList qs
+unfolding ofList
+ofList-mono []⊑ = none⊑
+ofList-mono (h ∷⊑ hs) = more⊑ h (ofList-mono hs)
+
+pub toList-ofList : (ps : List Part) → toList (ofList ps) ≡ ps
+unfolding toList ofList
+toList-ofList [] = refl
+toList-ofList (p ∷ ps) = ap (_∷_ p) (toList-ofList ps)
+
+-- with more known of the variables the path through a tree ends at the same rule, with more known of that rule's variables
+pub hits-mono : {B : Book} {t : Tree} {ρ σ : List Part} {e : Expr} {ρ′ : List Part} → ρ ⊑ˡ σ → Hits B t ρ e ρ′
+    → (σ′ : List Part) × Hits B t σ e σ′ × ρ′ ⊑ˡ σ′
+hits-mono {σ} le (Hits.rule s) = (σ, Hits.rule (rw (⊑ˡ-length le) at s), le)
+hits-mono {B} {σ} le (Hits.branch {x = x} e c hits) =
+    let (qs, e′, more) = ⊑-con (rw e at (getD-mono le x)) in
+    let (σ′, hits′, le′) = hits-mono (append-mono le (toList-mono more)) hits in
+    (σ′, Hits.branch e′ c hits′, le′)
+
+mutual
+  pub gives-mono : {B : Book} {e : Expr} {ρ σ : List Part} {p q : Part} → Gives B e ρ p → ρ ⊑ˡ σ → q ⊑ p → Gives B e σ q
+  gives-mono Gives.nothing le bot⊑ = Gives.nothing
+  gives-mono (Gives.var {x = x} h) le k = Gives.var (⊑-trans k (⊑-trans h (getD-mono le x)))
+  gives-mono (Gives.constructor c row) le bot⊑ = Gives.nothing
+  gives-mono (Gives.constructor c row) le (con⊑ k) = Gives.constructor c (givesRow-mono row le k)
+  gives-mono (Gives.operation {ps = ps} {ρ′ = ρ′} c row hits g) le k =
+      Gives.operation c (givesRow-mono row le (⊑*-refl ps)) hits (gives-mono g (⊑ˡ-refl ρ′) k)
+  gives-mono (Gives.left g) le k = Gives.left (gives-mono g le k)
+  gives-mono (Gives.right g) le k = Gives.right (gives-mono g le k)
+
+  pub givesRow-mono : {B : Book} {es : Exprs} {ρ σ : List Part} {ps qs : Parts} → GivesRow B es ρ ps → ρ ⊑ˡ σ → qs ⊑* ps → GivesRow B es σ qs
+  givesRow-mono GivesRow.none le none⊑ = GivesRow.none
+  givesRow-mono (GivesRow.more g gs) le (more⊑ k ks) = GivesRow.more (gives-mono g le k) (givesRow-mono gs le ks)
+
+pub operationGives-mono : {B : Book} {f : ℕ} {ρ σ : List Part} {p q : Part} → ρ ⊑ˡ σ → q ⊑ p → OperationGives B f ρ p → OperationGives B f σ q
+operationGives-mono le k o =
+    let (σ′, hits′, le′) = hits-mono le (o .hits) in
+    record { expr = o .expr; env = σ′; hits = hits′; gives = gives-mono (o .gives) le′ k }
+
+pub applyAgrees-mono : (B : Book) (b : Bool) (f : ℕ) {ρ σ : List Part} {p q : Part} → ρ ⊑ˡ σ → q ⊑ p → ApplyAgrees B b f ρ p → ApplyAgrees B b f σ q
+unfolding ApplyAgrees
+applyAgrees-mono B true f le k h = ⊑-trans k (⊑-trans h (con⊑ (ofList-mono le)))
+applyAgrees-mono B false f le k (inl e) = inl (⊑-bot (rw e at k))
+applyAgrees-mono B false f le k (inr o) = inr (operationGives-mono le k o)
+
+-- what may stand at a node may still stand there when more is known of the other nodes, and so may less
+pub agrees-mono : (B : Book) (δ : ℕ → Side) {π σ : ℕ → Part} (x : Node) {p q : Part} → π ⊑ᶠ σ → q ⊑ p → Agrees B δ π x p → Agrees B δ σ x q
+unfolding Agrees
+agrees-mono B δ (apply f xs) le k h = applyAgrees-mono B (B .isConstructor f) f (map-mono le xs) k h
+agrees-mono B δ (choice i l r) le k h = ⊑-trans k (⊑-trans h (le (sideOf (δ i) l r)))
+agrees-mono B δ fail le k h = ⊑-bot (rw h at k)
+agrees-mono B δ (forward m) le k h = ⊑-trans k (⊑-trans h (le m))
+
+-- nothing may stand everywhere
+pub agrees-bot : (B : Book) (δ : ℕ → Side) (π : ℕ → Part) (x : Node) → Agrees B δ π x bot
+unfolding Agrees
+agrees-bot B δ π (apply f xs) = idle (B .isConstructor f)
+  where
+    idle : (b : Bool) → ApplyAgrees B b f (map π xs) bot
+    idle true = bot⊑
+    idle false = inl refl
+agrees-bot B δ π (choice i l r) = bot⊑
+agrees-bot B δ π fail = refl
+agrees-bot B δ π (forward m) = bot⊑
+
+-- what agreement says at each kind of node
+module _ (B : Book) (δ : ℕ → Side) (π : ℕ → Part) where
+  pub agrees-constructor : {x : Node} {c : ℕ} {xs : List ℕ} {p : Part} → x ≡ apply c xs → B .isConstructor c ≡ true
+      → Agrees B δ π x p ↔ p ⊑ Part.con c (ofList (map π xs))
+  unfolding Agrees
+  agrees-constructor e k = rw (e, k) Iff·rfl
+
+  pub agrees-operation : {x : Node} {f : ℕ} {xs : List ℕ} {p : Part} → x ≡ apply f xs → B .isConstructor f ≡ false
+      → Agrees B δ π x p ↔ ((p ≡ bot) ⊎ OperationGives B f (map π xs) p)
+  unfolding Agrees
+  agrees-operation e k = rw (e, k) Iff·rfl
+
+  pub agrees-choice : {x : Node} {i l r : ℕ} {p : Part} → x ≡ choice i l r → Agrees B δ π x p ↔ p ⊑ π (sideOf (δ i) l r)
+  unfolding Agrees
+  agrees-choice e = rw e Iff·rfl
+
+  pub agrees-fail : {x : Node} {p : Part} → x ≡ fail → Agrees B δ π x p ↔ (p ≡ bot)
+  unfolding Agrees
+  agrees-fail e = rw e Iff·rfl
+
+  pub agrees-forward : {x : Node} {m : ℕ} {p : Part} → x ≡ forward m → Agrees B δ π x p ↔ p ⊑ π m
+  unfolding Agrees
+  agrees-forward e = rw e Iff·rfl
+
+-- the same symbol over arguments of which more is known
+pub agrees-apply : (B : Book) (δ : ℕ → Side) (π σ : ℕ → Part) (f : ℕ) (xs ys : List ℕ) {p q : Part} → map π xs ⊑ˡ map σ ys → q ⊑ p
+    → Agrees B δ π (apply f xs) p → Agrees B δ σ (apply f ys) q
+unfolding Agrees
+agrees-apply B δ π σ f xs ys le k a = applyAgrees-mono B (B .isConstructor f) f le k a

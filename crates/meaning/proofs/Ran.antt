@@ -1,0 +1,70 @@
+-- What a run can come to: refused before its first turn, or book and question are admitted and it has its turns.
+use mathlib.Core.Bool.{Bool, true, false}
+use mathlib.Core.Path.{_≡_, refl}
+use mathlib.Core.List.{List}
+use Prim.Native.Nat.{ℕ, _<_}
+use native.Mathlib.Omega.{arith}
+use lib.Dec.{ltb, eqb}
+use lib.ListN.{length}
+use Rattle.reading.specs.Reading.{Reading, got, refusal}
+use Rattle.expressions.specs.Expressions.{Expr}
+use Rattle.book.specs.Rules.{Rules, bookOf}
+use Rattle.book.specs.Admission.{readBook, readQuestion}
+use Rattle.machine.specs.Turn.{turns, loaded}
+use Rattle.machine.specs.Run.{Memory, Outcome, roomsOf, refusedAt, endedAs, runLoaded, run}
+use Rattle.meaning.proofs.Refusals.{book-refused, question-refused}
+
+-- A run is refused before its first turn, with a number above 0; or book and question are admitted and it has its turns.
+pub data Ran (book asking : List ℕ) (fuel : ℕ) (m : Memory) : Outcome → Type 0 where
+  early : (c p : ℕ) → 0 < c → Ran book asking fuel m (refusedAt c p m)
+  late : {r : Rules} {q : Expr} {p p′ : ℕ} → readBook book ≡ got r p → readQuestion (r .symbols) asking ≡ got q p′
+      → Ran book asking fuel m (endedAs m (turns (bookOf r) (roomsOf m) fuel (loaded q)))
+
+-- every run is one of these
+pub ran : (book asking : List ℕ) (fuel : ℕ) (m : Memory) → Ran book asking fuel m (run book asking fuel m)
+unfolding run runLoaded
+ran book asking fuel m = with-book (readBook book) refl
+  where
+    loading : {r : Rules} {q : Expr} {p p′ : ℕ} → readBook book ≡ got r p → readQuestion (r .symbols) asking ≡ got q p′
+        → Ran book asking fuel m (runLoaded (bookOf r) fuel m (loaded q))
+    loading {r} {q} admitted asked = no-byte (eqb (length (m .bytes)) 0)
+      where
+        turned : Outcome
+        turned = endedAs m (turns (bookOf r) (roomsOf m) fuel (loaded q))
+
+        no-place : (b : Bool) → Ran book asking fuel m (elim b [ true ↦ refusedAt 23 0 m | false ↦ turned ])
+        no-place true = Ran.early 23 0 (omega arith)
+        no-place false = Ran.late admitted asked
+
+        no-node : (b : Bool) → Ran book asking fuel m (elim b [
+          | true ↦ refusedAt 21 0 m
+          | false ↦
+              elim (eqb (length (m .list)) 0) [ true ↦ refusedAt 23 0 m | false ↦ turned ]
+        ])
+        no-node true = Ran.early 21 0 (omega arith)
+        no-node false = no-place (eqb (length (m .list)) 0)
+
+        no-byte : (b : Bool) → Ran book asking fuel m (elim b [
+          | true ↦ refusedAt 25 0 m
+          | false ↦
+              elim (ltb (roomsOf m .nodes) (length (loaded q .heap))) [
+                | true ↦ refusedAt 21 0 m
+                | false ↦
+                    elim (eqb (length (m .list)) 0) [ true ↦ refusedAt 23 0 m | false ↦ turned ]
+              ]
+        ])
+        no-byte true = Ran.early 25 0 (omega arith)
+        no-byte false = no-node (ltb (roomsOf m .nodes) (length (loaded q .heap)))
+
+    with-question : {r : Rules} {p : ℕ} → readBook book ≡ got r p → (y : Reading Expr) → readQuestion (r .symbols) asking ≡ y
+        → Ran book asking fuel m (elim y [ refusal c p ↦ refusedAt c p m | got q _ ↦ runLoaded (bookOf r) fuel m (loaded q) ])
+    with-question {r} admitted (refusal c p) e = Ran.early c p (question-refused (r .symbols) asking e)
+    with-question admitted (got q p) e = loading admitted e
+
+    with-book : (x : Reading Rules) → readBook book ≡ x
+        → Ran book asking fuel m (elim x [
+          | refusal c p ↦ refusedAt c p m
+          | got r _ ↦ elim (readQuestion (r .symbols) asking) [ refusal c p ↦ refusedAt c p m | got q _ ↦ runLoaded (bookOf r) fuel m (loaded q) ]
+        ])
+    with-book (refusal c p) e = Ran.early c p (book-refused book e)
+    with-book (got r p) e = with-question e (readQuestion (r .symbols) asking) refl

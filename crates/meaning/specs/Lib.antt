@@ -1,0 +1,4 @@
+pub mod Plain
+pub mod Demand3
+pub mod Partial
+pub mod Readings

@@ -1,0 +1,62 @@
+-- Partial values: what is known of a node so far. `bot` is nothing yet.
+use mathlib.Core.Bool.{true, false}
+use mathlib.Core.Path.{_≡_}
+use mathlib.Core.List.{List, [], _∷_, _++_}
+use Prim.Native.Nat.{ℕ}
+use lib.ListN.{length, getD}
+use Rattle.expressions.specs.Expressions.{Expr, Exprs}
+use Rattle.book.specs.Trees.{Tree, Trees, treeAt}
+use Rattle.book.specs.Rules.{Book}
+use Rattle.rewriting.specs.Scoped.{Scoped}
+
+mutual
+  pub data Part : Type 0 where
+    bot : Part
+    con : ℕ → Parts → Part
+
+  pub data Parts : Type 0 where
+    noParts : Parts
+    moreParts : Part → Parts → Parts
+
+unfoldable pub toList : Parts → List Part
+toList noParts = []
+toList (moreParts p ps) = p ∷ toList ps
+
+unfoldable pub ofList : List Part → Parts
+ofList [] = noParts
+ofList (p ∷ ps) = moreParts p (ofList ps)
+
+infix 40 _⊑_
+infix 40 _⊑*_
+mutual
+  -- p says no more than q
+  pub data _⊑_ : Part → Part → Type 0 where
+    bot⊑ : {q : Part} → bot ⊑ q
+    con⊑ : {c : ℕ} {ps qs : Parts} → ps ⊑* qs → con c ps ⊑ con c qs
+
+  pub data _⊑*_ : Parts → Parts → Type 0 where
+    none⊑ : noParts ⊑* noParts
+    more⊑ : {p q : Part} {ps qs : Parts} → p ⊑ q → ps ⊑* qs → moreParts p ps ⊑* moreParts q qs
+
+module _ (B : Book) where
+  -- with these partial values for the variables, the path through a tree ends at a rule
+  pub data Hits : Tree → List Part → Expr → List Part → Type 0 where
+    rule : {e : Expr} {ρ : List Part} → Scoped (length ρ) e → Hits (Tree.rule e) ρ e ρ
+    branch : {x c : ℕ} {ts : Trees} {ρ : List Part} {ps : Parts} {e : Expr} {ρ′ : List Part}
+        → getD ρ x bot ≡ con c ps → B .isConstructor c ≡ true
+        → Hits (treeAt ts (B .place c)) (ρ ++ toList ps) e ρ′ → Hits (Tree.branch x ts) ρ e ρ′
+
+  mutual
+    -- the expression e can give p, with these partial values for the variables; each choice is taken one way
+    pub data Gives : Expr → List Part → Part → Type 0 where
+      nothing : {e : Expr} {ρ : List Part} → Gives e ρ bot
+      var : {x : ℕ} {ρ : List Part} {p : Part} → p ⊑ getD ρ x bot → Gives (Expr.var x) ρ p
+      constructor : {c : ℕ} {es : Exprs} {ρ : List Part} {ps : Parts} → B .isConstructor c ≡ true → GivesRow es ρ ps → Gives (Expr.apply c es) ρ (con c ps)
+      operation : {f : ℕ} {es : Exprs} {ρ : List Part} {ps : Parts} {e : Expr} {ρ′ : List Part} {p : Part}
+          → B .isConstructor f ≡ false → GivesRow es ρ ps → Hits (B .tree f) (toList ps) e ρ′ → Gives e ρ′ p → Gives (Expr.apply f es) ρ p
+      left : {a b : Expr} {ρ : List Part} {p : Part} → Gives a ρ p → Gives (Expr.choice a b) ρ p
+      right : {a b : Expr} {ρ : List Part} {p : Part} → Gives b ρ p → Gives (Expr.choice a b) ρ p
+
+    pub data GivesRow : Exprs → List Part → Parts → Type 0 where
+      none : {ρ : List Part} → GivesRow Exprs.noExprs ρ noParts
+      more : {e : Expr} {es : Exprs} {ρ : List Part} {p : Part} {ps : Parts} → Gives e ρ p → GivesRow es ρ ps → GivesRow (Exprs.moreExprs e es) ρ (moreParts p ps)

@@ -1,0 +1,5 @@
+pub mod EachRead
+pub mod ReadingFits
+pub mod Steering
+pub mod HeapsFit
+pub mod FewNodes
