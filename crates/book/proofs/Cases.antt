@@ -1,10 +1,8 @@
 -- The cases of a branch, read one after the other: what the cases still to come give, the whole row gives.
-use mathlib.Core.Bool.{Bool, true, false}
+use mathlib.Core.Bool.{true}
 use mathlib.Core.List.{List, [], _∷_}
 use mathlib.Core.Path.{_≡_, refl, sym, ap, _∙_}
 use Prim.Native.Nat.{ℕ, _+_}
-use native.Mathlib.Omega.{arith}
-use lib.ListN.{length}
 use Rattle.reading.specs.Reading.{Reading, got, refusal, _then_}
 use Rattle.reading.specs.Answer.{keeping, nothing}
 use Rattle.reading.proofs.Keeping.{then-got, then-refusal}
@@ -37,12 +35,6 @@ module _ (bs : List ℕ) (S : Symbols) (sort e : ℕ) (tree : List ℕ → ℕ �
       refused = λ c q r. sym e ∙ r;
       read = λ ts q r. (ts, sym e ∙ r, ap (λ (k : ℕ). markTrees k ts was) (sym f) ∙ ap (markTrees _ ts) (sym g));
     }
-
-    -- a symbol that is no case
-    pub onward-past : (x : Symbol) (rest : Symbols) (p : ℕ) (is : List ℕ) → isConstructorOf branch x ≡ false
-        → Onward whole from was (casesOf (x ∷ rest) p) p is → Onward whole from was (casesOf rest p) p is
-    unfolding constructorsOf
-    onward-past x rest p is no-case on = rw (no-case, constructorsOf) at on
 
     -- a case that was read, and its ends marked
     pub onward-read : (x : Symbol) (rest : Symbols) (p q : ℕ) (is now : List ℕ) (t : Tree) → isConstructorOf branch x ≡ true

@@ -3,3 +3,9 @@ pub mod Cases
 pub mod TreeWays
 pub mod Paths
 pub mod PartWays
+pub mod Constructors
+pub mod Branches
+pub mod CaseWays
+pub mod TreeTold
+pub mod Questions
+pub mod BookWays

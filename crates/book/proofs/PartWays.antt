@@ -155,7 +155,7 @@ module _ (bs : List ℕ) (S : Symbols) (e : ℕ) where
 
 -- what it is that trees are indexed, where they were read
 module _ (p f : ℕ) (rest : Symbols) (info′ info ends′ ends : List ℕ) {r : Reading Trees} {ts : Trees} {q : ℕ} (read : r ≡ got ts q) where
-  indexed-read : Indexed p f rest r info′ info ends′ ends → (info ≡ rootsFrom p f rest ts info′) × (ends ≡ endsFrom p rest ts ends′)
+  pub indexed-read : Indexed p f rest r info′ info ends′ ends → (info ≡ rootsFrom p f rest ts info′) × (ends ≡ endsFrom p rest ts ends′)
   unfolding Indexed
   indexed-read index = rw (read, Indexed) at index
 

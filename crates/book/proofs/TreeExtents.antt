@@ -3,13 +3,13 @@ use mathlib.Core.List.{List, [], _∷_, _++_}
 use mathlib.Core.Path.{_≡_, refl}
 use Prim.Native.Nat.{ℕ, zero, suc, _+_, _≤_, _<_}
 use native.Mathlib.Omega.{arith}
-use lib.ListN.{length, getD}
+use lib.ListN.{getD}
 use Rattle.reading.specs.Reading.{Reading}
 use Rattle.reading.proofs.Good.{Good, good, refused, then-good, unless, byte-good, length-good}
 use Rattle.symbols.specs.Symbols.{Symbol, Symbols, constructorsOf}
 use Rattle.expressions.specs.Expressions.{exprBytes}
 use Rattle.expressions.specs.ExpressionAt.{wholeExprAt}
-use Rattle.expressions.proofs.Extents.{Extent, whole-extent}
+use Rattle.expressions.proofs.Extents.{whole-extent}
 use Rattle.book.specs.Trees.{Tree, Trees}
 use Rattle.book.specs.TreeAt.{treesWith, branchedAt, branchAt, treeCodeAt, treeIn, itemAt}
 use Rattle.book.specs.Index.{treeBytes, treesBytes}

@@ -12,7 +12,6 @@ use Rattle.reading.proofs.AtPlace.{byte-past, byte-got}
 use Rattle.reading.proofs.Good.{good-got}
 use Rattle.reading.proofs.Keeping.{kept-got, kept-refusal, then-got, then-refusal}
 use Rattle.symbols.specs.Symbols.{Symbols, constructorsOf}
-use Rattle.expressions.specs.Expressions.{exprBytes}
 use Rattle.expressions.specs.ExpressionAt.{leftOf, wholeAt, wholeExprAt}
 use Rattle.expressions.proofs.Extents.{whole-extent}
 use Rattle.book.specs.Trees.{Tree, Trees, exempt, rule, branch}

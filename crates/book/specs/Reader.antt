@@ -1,5 +1,5 @@
 -- What the reader of trees keeps beside the bytes: the path's variables, and the ends that it marks.
-use mathlib.Core.Bool.{Bool, false}
+use mathlib.Core.Bool.{false}
 use mathlib.Core.List.{List}
 use mathlib.Core.Path.{_≡_}
 use Prim.Native.Nat.{ℕ, _≤_, _<_}
@@ -9,10 +9,16 @@ use Rattle.reading.specs.Reading.{Reading, got, refusal}
 use Rattle.reading.specs.declared.Reading.{Reading as Answered}
 use Rattle.reading.specs.declared.Reading.the-variants.{Got, Refusal}
 use Rattle.symbols.specs.Symbols.{Symbols, symbolOf}
+use Rattle.symbols.specs.Table.{inArray, nextsFrom, firstsFrom}
 use Rattle.book.specs.TreeAt.{isIn}
 use Rattle.book.specs.Trees.{Tree, Trees}
 use Rattle.book.specs.Index.{markTree, markTrees, rootsFrom, endsFrom}
 use Rattle.book.specs.declared.path.Path.{Path}
+
+-- the constructors of each sort, chained
+pub record Chained (symbols : Symbols) (next first : List ℕ) : Type 0 where
+  pub nexts : next ≡ inArray (nextsFrom symbols 0)
+  pub firsts : first ≡ firstsFrom symbols 256 0
 
 -- the sorts of the variables bound on a path
 abbrev pub varsOf : Path → List ℕ

@@ -1,2 +1,158 @@
-// Admission of a whole book and a whole question. The variables of a path so far; the readers follow.
+// Admission of a whole book and a whole question, and the index that a run needs.
+ghost use mathlib.Core.Path.{_≡_};
+ghost use Prim.Native.Nat.{_≤_};
+ghost use mathlib.Core.List.{[]};
+ghost use lib.ListN.{length, replicate};
+ghost use Rattle.reading.specs.declared.Reading.the-variants.{Refusal};
+ghost use Rattle.reading.specs.Answer.{readingOf, keeping, nothing};
+ghost use Rattle.symbols.specs.Table.{symbolsIn, inArray};
+ghost use Rattle.book.specs.Rules.{Rules};
+ghost use Rattle.book.specs.Admission.{readBook, questionOpened, askedAt, readQuestion};
+ghost use Rattle.book.specs.Index.{atAfter, infoAfter, endsAfter};
+
 mod path;
+mod trees;
+
+use expressions::read_whole;
+use limits::Limits;
+use reading::Asker;
+use reading::Reading;
+use reading::byte;
+use reading::byte_at;
+use reading::length_at;
+use symbols::part::read_symbol_part;
+use trees::TreePart;
+use trees::read_tree_part;
+
+// A book that was read: how many symbols it has, or the refusal; and its index. `at` has the place of each symbol; `info` an
+// operation's tree, or which of its sort's constructors a symbol is; `ends` at the place of each tree the place behind it. After a
+// refusal all three are zeros.
+pub struct BookIndex {
+    pub reading: Reading,
+    pub at: [u16; Limits::SYMBOLS],
+    pub info: [u16; Limits::SYMBOLS],
+    pub ends: [u16; Limits::BOOK],
+}
+
+fn refused(number: u8, place: usize) -> BookIndex
+    ensures { λ r. ⌜ (r .reading ≡ Refusal number place) × (r .at ≡ inArray []) × (r .info ≡ inArray []) × (r .ends ≡ replicate 32768 0) ⌝ }
+{
+    BookIndex {
+        reading: Reading::Refusal { number, place },
+        at: [0; Limits::SYMBOLS],
+        info: [0; Limits::SYMBOLS],
+        ends: [0; Limits::BOOK],
+    }
+}
+
+pub fn read_book(book: &[u8]) -> BookIndex
+    ensures { λ r. ⌜ (readingOf (r .reading) ≡ keeping (λ (x : Rules). length (x .symbols)) (readBook (now (book .entry)))) × (r .at ≡ atAfter (readBook (now (book .entry)))) × (r .info ≡ infoAfter (readBook (now (book .entry)))) × (r .ends ≡ endsAfter (readBook (now (book .entry)))) ⌝ }
+{
+    let symbols = read_symbol_part(book);
+    let reading = symbols.reading;
+    match reading {
+        Reading::Refusal { number, place } => refused(number, place),
+        Reading::Got { value: count, next } => {
+            let at = symbols.at;
+            let ranks = symbols.ranks;
+            let next_of = symbols.next;
+            let first = symbols.first;
+            let trees = read_tree_part(book, &at[0..count], &next_of, &first, next, ranks);
+            let r = trees.reading;
+            match r {
+                Reading::Refusal { number, place } => refused(number, place),
+                Reading::Got {
+                    value: _,
+                    next: end,
+                } => {
+                    let info = trees.info;
+                    let ends = trees.ends;
+                    BookIndex {
+                        reading: Reading::Got {
+                            value: count,
+                            next: end,
+                        },
+                        at,
+                        info,
+                        ends,
+                    }
+                }
+            }
+        }
+    }
+}
+
+// Size, version and length of a question: its end, and the place of its sort.
+fn open_question(question: &[u8]) -> Reading
+    ensures { λ r. ⌜ readingOf r ≡ questionOpened (now (question .entry)) ⌝ }
+{
+    if Limits::QUESTION < question.len() {
+        return Reading::Refusal {
+            number: 11,
+            place: 0,
+        };
+    }
+    match byte_at(question, Asker::Question, question.len(), 0) {
+        Reading::Refusal { number, place } => Reading::Refusal { number, place },
+        Reading::Got {
+            value: version,
+            next,
+        } => {
+            if version != 1 {
+                return Reading::Refusal {
+                    number: 12,
+                    place: 0,
+                };
+            }
+            length_at(question, Asker::Question, question.len(), next)
+        }
+    }
+}
+
+// The sort byte at q and the expression behind it, in a rest that ends at e.
+fn read_asked<'a>(book: &'a [u8], at: &[u16], question: &'a [u8], e: usize, q: usize) -> Reading
+    requires { ⌜ e ≤ length (now question) ⌝ }
+    ensures { λ r. ⌜ readingOf r ≡ keeping nothing (askedAt (symbolsIn (now (book .entry)) (now (at .entry))) (now (question .entry)) e q) ⌝ }
+{
+    match byte_at(question, Asker::Question, e, q) {
+        Reading::Refusal { number, place } => Reading::Refusal { number, place },
+        Reading::Got { value: _, next } => {
+            let sort = byte(question, q);
+            if Limits::LAST_SORT < sort {
+                return Reading::Refusal {
+                    number: 13,
+                    place: q,
+                };
+            }
+            let none = [0u8; 0];
+            match read_whole(book, question, Asker::Question, at, e, &none, sort, next) {
+                Reading::Refusal { number, place } => Reading::Refusal { number, place },
+                Reading::Got { value: _, next: t } => {
+                    if t < e {
+                        return Reading::Refusal {
+                            number: 11,
+                            place: t,
+                        };
+                    }
+                    if t < question.len() {
+                        return Reading::Refusal {
+                            number: 11,
+                            place: t,
+                        };
+                    }
+                    Reading::Got { value: 0, next: t }
+                }
+            }
+        }
+    }
+}
+
+// A question to the book whose symbols have the places `at`. Where it is admitted its expression stands from place 4 to its end.
+pub fn read_question<'a>(book: &'a [u8], at: &[u16], question: &'a [u8]) -> Reading
+    ensures { λ r. ⌜ readingOf r ≡ keeping nothing (readQuestion (symbolsIn (now (book .entry)) (now (at .entry))) (now (question .entry))) ⌝ }
+{
+    match open_question(question) {
+        Reading::Refusal { number, place } => Reading::Refusal { number, place },
+        Reading::Got { value: e, next: q } => read_asked(book, at, question, e, q),
+    }
+}

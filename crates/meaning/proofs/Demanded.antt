@@ -1,5 +1,5 @@
--- The walk down the nodes of which a reading says something. Each leads to a constructor, or to a node where a step can be made: the paths are finite, and
--- an operation's path through its tree, on partial values, is its path on the heap.
+-- The walk down the nodes of which a reading says something. Each leads to a constructor, or to a node where a step can be made:
+-- the paths are finite, and an operation's path through its tree, on partial values, is its path on the heap.
 use mathlib.Core.Bool.{true, false}
 use mathlib.Core.Path.{_≡_, refl, sym, _∙_}
 use mathlib.Core.Logic.{_⊎_, inl, inr, ⊎-elim}
@@ -20,6 +20,7 @@ use Rattle.meaning.proofs.Finite.{Arrow, argument, target, Finite, fini
 use Rattle.meaning.proofs.Measure.{GivesIn, AgreesIn, raise-gives, below-row}
 use Rattle.meaning.proofs.Fresh.{variable}
 
+-- what stands for a constructor is a variable that is there
 pub getD-inside : (ρ : List Part) (x : ℕ) {c : ℕ} {ps : Parts} → getD ρ x bot ≡ con c ps → x < length ρ
 getD-inside [] x e = let z : _≡_ {A = ℕ} 0 1 = cc in omega arith
 getD-inside (p ∷ ρ) zero e = omega arith
@@ -30,7 +31,8 @@ module _ (B : Book) (h : Heap) (δ : ℕ → Side) (π : ℕ → Part) (σ : ℕ
   -- a node where a step can be made, with what its derivation says
   pub data Redex : Type 0 where
     chosen : (n : ℕ) {i l r : ℕ} → at h n ≡ Node.choice i l r → 0 < σ n → π n ⊑ π (sideOf (δ i) l r) → Redex
-    ruled : (n : ℕ) {f t : ℕ} {xs env : List ℕ} {e : Expr} → at h n ≡ Node.apply f xs → B .isConstructor f ≡ false → Ends B h (B .tree f) xs e env
+    ruled : (n : ℕ) {f t : ℕ} {xs env : List ℕ} {e : Expr} → at h n ≡ Node.apply f xs → B .isConstructor f ≡ false
+        → Ends B h (B .tree f) xs e env
         → t < σ n → GivesIn B t e (map π env) (π n) → Redex
 
   -- forwards followed, node n is a constructor c whose arguments have at least the partial values ps
@@ -55,6 +57,7 @@ module _ (B : Book) (h : Heap) (δ : ℕ → Side) (π : ℕ → Part) (σ : ℕ
   abbrev Calm : ℕ → Type 0
   Calm n = (m : ℕ) → Reach n m → Settled m
 
+  -- forwards are arrows, too
   reach-leads : {n m x : ℕ} → Leads h n m → Reach m x → Reach n x
   reach-leads Leads.here r = r
   reach-leads (Leads.along {n} {m} e l) r = over {n = n} {x = m} (rw e target) (reach-leads l r)
@@ -72,10 +75,12 @@ module _ (B : Book) (h : Heap) (δ : ℕ → Side) (π : ℕ → Part) (σ : ℕ
       (all-append calm (every (d .arguments) λ y i m r. there m (reach-leads (d .leads) (over {n = d .node} {x = y} (rw (d .is) (argument i)) r))))))
       (there (getD env x 0) here c ps (variable env x (⊑-of-eq (sym e)) π le))
 
+  -- two constructors, of which one says no more, are the same
   same-head : {c c′ : ℕ} {ps qs : Parts} → con c ps ⊑ con c′ qs → (c′ ≡ c) × (ps ⊑* qs)
   same-head (con⊑ le) = (refl, le)
 
   module _ (agrees : (m : ℕ) → AgreesIn B δ π (σ m) (at h m) (π m)) where
+    -- a node is settled if all below it are
     settle : (n : ℕ) → ((x : ℕ) → Arrow x (at h n) → Calm x) → Settled n
     settle n below c ps le = go (at h n) (π n) refl refl (agrees n) le
       where
@@ -99,10 +104,12 @@ module _ (B : Book) (h : Heap) (δ : ℕ → Side) (π : ℕ → Part) (σ : ℕ
             }))
             (below m (rw e target) m here c ps (⊑-trans le a))
 
+    -- so all are, from a node whose paths end
     calm : {n : ℕ} → Finite h n → Calm n
     calm {n} (finite f) m here = settle n (λ x a. calm (f x a))
     calm (finite f) m (over a r) = calm (f _ a) m r
 
+    -- paths end from every node below
     reach-finite : {n m : ℕ} → Finite h n → Reach n m → Finite h m
     reach-finite g here = g
     reach-finite (finite f) (over a r) = reach-finite (f _ a) r

@@ -1,4 +1,5 @@
--- What an expression makes can be read as what the expression gives: partial values for its nodes, and sides for its choices, of no larger size.
+-- What an expression makes can be read as what the expression gives: partial values for its nodes, and sides for its choices, of no
+-- larger size.
 use mathlib.Core.Bool.{true, false}
 use mathlib.Core.Path.{_≡_, refl, sym, ap, subst}
 use mathlib.Core.List.{List, [], _∷_, _++_, map}
@@ -37,12 +38,14 @@ module _ {B : Book} where
 
 module _ {B : Book} {env : List ℕ} {ρ : List Part} where
   -- no node at all
-  none-made : {next k s : ℕ} {G : (ℕ → Side) → (ℕ → Part) → Type 0} → ((δ : ℕ → Side) (π : ℕ → Part) → ρ ⊑ˡ map π env → G δ π) → Stretch B env ρ next k [] k G s
+  none-made : {next k s : ℕ} {G : (ℕ → Side) → (ℕ → Part) → Type 0} → ((δ : ℕ → Side) (π : ℕ → Part) → ρ ⊑ˡ map π env → G δ π)
+      → Stretch B env ρ next k [] k G s
   unfolding sum
   none-made v = record { parts = []; sizes = []; sides = []; count = refl; numbers = omega arith; total = omega arith; holds = λ δ π a b l. (v δ π l, Read.none) }
 
   -- nodes of which nothing is asked
-  blank : {next k s c : ℕ} (nodes : List Node) {G : (ℕ → Side) → (ℕ → Part) → Type 0} → k ≤ c → ((δ : ℕ → Side) (π : ℕ → Part) → G δ π) → Stretch B env ρ next k nodes c G s
+  blank : {next k s c : ℕ} (nodes : List Node) {G : (ℕ → Side) → (ℕ → Part) → Type 0} → k ≤ c → ((δ : ℕ → Side) (π : ℕ → Part) → G δ π)
+      → Stretch B env ρ next k nodes c G s
   blank {next} {k} {s} {c} nodes l v = record {
     parts = replicate (length nodes) bot;
     sizes = replicate (length nodes) 0;
@@ -55,7 +58,8 @@ module _ {B : Book} {env : List ℕ} {ρ : List Part} where
 
   -- one stretch after another
   join : {next k s c s′ c′ t : ℕ} {nodes nodes′ : List Node} {G G′ : (ℕ → Side) → (ℕ → Part) → Type 0} → Stretch B env ρ next k nodes c G s
-      → Stretch B env ρ (next + length nodes) c nodes′ c′ G′ s′ → s + s′ ≤ t → Stretch B env ρ next k (nodes ++ nodes′) c′ (λ δ π. G δ π × G′ δ π) t
+      → Stretch B env ρ (next + length nodes) c nodes′ c′ G′ s′ → s + s′ ≤ t
+      → Stretch B env ρ next k (nodes ++ nodes′) c′ (λ δ π. G δ π × G′ δ π) t
   join {next} {k} {nodes} {nodes′} x y l = record {
     parts = x .parts ++ y .parts;
     sizes = x .sizes ++ y .sizes;
@@ -72,7 +76,8 @@ module _ {B : Book} {env : List ℕ} {ρ : List Part} where
   }
 
   -- a node in front
-  push : {next k s c t u : ℕ} {nodes : List Node} {G : (ℕ → Side) → (ℕ → Part) → Type 0} {x : Node} {p : Part} → Stretch B env ρ (suc next) k nodes c G s
+  push : {next k s c t u : ℕ} {nodes : List Node} {G : (ℕ → Side) → (ℕ → Part) → Type 0} {x : Node} {p : Part}
+      → Stretch B env ρ (suc next) k nodes c G s
       → ((δ : ℕ → Side) (π : ℕ → Part) → G δ π → AgreesIn B δ π t x p) → t + s ≤ u → Stretch B env ρ next k (x ∷ nodes) c (λ δ π. p ⊑ π next) u
   unfolding sum
   push {t} {p} x f l = record {
@@ -130,16 +135,20 @@ module _ {B : Book} where
       → AgreesIn B δ π 0 (Node.apply c xs) (con c ps)
   constructed ps c δ π l = AgreesIn.constructor c (con⊑ (row-below ps l))
 
-  operated : {t f : ℕ} {xs : List ℕ} (ps : Parts) {e : Expr} {ρ′ : List Part} {p : Part} → B .isConstructor f ≡ false → Hits B (B .tree f) (toList ps) e ρ′ → GivesIn B t e ρ′ p
+  -- the same of an operation
+  operated : {t f : ℕ} {xs : List ℕ} (ps : Parts) {e : Expr} {ρ′ : List Part} {p : Part} → B .isConstructor f ≡ false
+      → Hits B (B .tree f) (toList ps) e ρ′ → GivesIn B t e ρ′ p
       → (δ : ℕ → Side) (π : ℕ → Part) → toList ps ⊑ˡ map π xs → AgreesIn B δ π (suc t) (Node.apply f xs) p
   operated ps f h g δ π l =
       let u = hits-mono l h in
       AgreesIn.operation (le-refl _) f (u .1) (raise-gives B g (u .2))
 
+  -- how a choice agrees, once its left side is read
   chosen-left : {k l r : ℕ} {p : Part} (δ : ℕ → Side) (π : ℕ → Part) → p ⊑ π l → δ k ≡ Side.left → AgreesIn B δ π 1 (Node.choice k l r) p
   unfolding sideOf
   chosen-left {k} {l} {r} {p} δ π h e = AgreesIn.choice {i = k} {l = l} {r = r} {p = p} (le-refl 1) (rw e h)
 
+  -- and its right
   chosen-right : {k l r : ℕ} {p : Part} (δ : ℕ → Side) (π : ℕ → Part) → p ⊑ π r → δ k ≡ Side.right → AgreesIn B δ π 1 (Node.choice k l r) p
   unfolding sideOf
   chosen-right {k} {l} {r} {p} δ π h e = AgreesIn.choice {i = k} {l = l} {r = r} {p = p} (le-refl 1) (rw e h)
@@ -148,6 +157,7 @@ module _ (B : Book) (env : List ℕ) where
   mutual
     unfolding make toList
 
+    -- the nodes of an expression, and of a row of them, can be read as it gives
     make-read : {s : ℕ} {e : Expr} {ρ : List Part} {p : Part} → GivesIn B s e ρ p → (next k : ℕ)
         → Stretch B env ρ next k (make e env next k .nodes) (make e env next k .choices) (λ δ π. p ⊑ π (make e env next k .arrow)) s
     make-read {e} GivesIn.nothing next k = blank (make e env next k .nodes) (make-choices env e next k .0) (λ δ π. bot⊑)

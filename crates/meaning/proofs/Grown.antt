@@ -1,5 +1,5 @@
--- Readings of a heap h, and of the heap h′ in which node n has been replaced and others added: a reading of h goes on to h′ with what the fresh nodes have,
--- and a reading of h′ is one of h if it fits the old node n, once the others have been raised as needed.
+-- Readings of a heap h, and of the heap h′ in which node n has been replaced and others added: a reading of h goes on to h′ with
+-- what the fresh nodes have, and a reading of h′ is one of h if it fits the old node n, once the others have been raised as needed.
 use mathlib.Core.Path.{_≡_, refl, sym, ap, ap₂, _∙_}
 use mathlib.Core.Logic.{_⊎_, inl, inr, _≢_}
 use mathlib.Core.Option.{some}
@@ -35,7 +35,9 @@ map-cut : (π : ℕ → Part) (b : ℕ) (xs : List ℕ) → AllBelow b xs → ma
 map-cut π b [] all = refl
 map-cut π b (x ∷ xs) (lt, all) = ap₂ _∷_ (splice-below π b (λ j. bot) x lt) (map-cut π b xs all)
 
-agrees-cut : (B : Book) (δ : ℕ → Side) (π : ℕ → Part) (b : ℕ) (x : Node) (p : Part) → ArrowsBelow b x → Agrees B δ π x p → Agrees B δ (cut π b) x p
+-- what agrees still does, if its arrows are below the cut
+agrees-cut : (B : Book) (δ : ℕ → Side) (π : ℕ → Part) (b : ℕ) (x : Node) (p : Part) → ArrowsBelow b x → Agrees B δ π x p
+    → Agrees B δ (cut π b) x p
 unfolding Agrees sideOf
 agrees-cut B δ π b (apply f xs) p all a = rw (map-cut π b xs all) a
 agrees-cut B δ π b (choice i l r) p (ll, lr) a = rw (splice-below π b (λ j. bot) (sideOf (δ i) l r) (side (δ i))) a
@@ -50,10 +52,12 @@ agrees-cut B δ π b (forward m) p lt a = rw (splice-below π b (λ j. bot) m lt
 pub Changed : Heap → ℕ → ℕ → Type 0
 Changed h n q = (q ≡ n) ⊎ (length h ≤ q)
 
+-- node n is one
 pub changed : (h : Heap) (n : ℕ) → Changed h n n
 unfolding Changed
 changed h n = inl refl
 
+-- no other node of h is
 pub unchanged : (h : Heap) (n q : ℕ) → q ≢ n → q < length h → ¬ Changed h n q
 unfolding Changed
 unchanged h n q e q< (inl z) = e z
@@ -72,6 +76,7 @@ module _ (B : Book) (h : Heap) (n : ℕ) (x : Node) (ys : List Node) (lt : n < l
       go (inl old) = ⊑-of-eq (sym (splice-below π (length h) g m old))
       go (inr (j, e)) = rw (agrees-fail B δ π (at-past h m (omega arith)) .0 (reads m)) bot⊑
 
+  -- A reading of h goes on to the grown heap.
   pub reads-grown : (δ : ℕ → Side) (π g : ℕ → Part) → Reads B h δ π → Agrees B δ (splice π (length h) g) x (π n)
       → ((j : ℕ) → Agrees B δ (splice π (length h) g) (getD ys j fail) (g j)) → Reads B (grown h n x ys) δ (splice π (length h) g)
   reads-grown δ π g reads top fresh m = go (old-or-new m (length h))
@@ -85,6 +90,7 @@ module _ (B : Book) (h : Heap) (n : ℕ) (x : Node) (ys : List Node) (lt : n < l
       go (inl m<) = old m< (ℕ-discrete m n)
       go (inr (j, e)) = rw (splice-from π (length h) g m j e, e, grown-new h n x ys j) (fresh j)
 
+  -- A reading of the grown heap is one of h, but for the changed nodes.
   pub reads-but : (δ : ℕ → Side) (π : ℕ → Part) → Reads B (grown h n x ys) δ π → ReadsBut B h δ (Changed h n) π
   unfolding Changed
   reads-but δ π reads m same =
@@ -92,7 +98,9 @@ module _ (B : Book) (h : Heap) (n : ℕ) (x : Node) (ys : List Node) (lt : n < l
       let m< : m < length h = omega arith in
       rw (grown-old h n x ys m (λ e. same (inl e)) m<) at (reads m)
 
-  pub canBe-shrunk : {d : Decisions} {r : ℕ} {v : Value} (δ : ℕ → Side) (π : ℕ → Part) → InRange h → ((i : ℕ) (s : Side) → d i ≡ some s → δ i ≡ s)
+  -- What fits the old node, too, is a reading of h.
+  pub canBe-shrunk : {d : Decisions} {r : ℕ} {v : Value} (δ : ℕ → Side) (π : ℕ → Part) → InRange h
+      → ((i : ℕ) (s : Side) → d i ≡ some s → δ i ≡ s)
       → ReadsBut B h δ (Changed h n) π → Agrees B δ π (at h n) (π n) → r < length h → whole v ⊑ π r → CanBe B h d r v
   canBe-shrunk {r} {v} δ π range keeps reads at-n r< le = record {
     δ = δ;

@@ -17,6 +17,7 @@ pub mod Question
 pub mod Follows
 pub mod PathsEnd
 pub mod Walks
+pub mod FewSymbols
 pub mod Members
 pub mod Turns
 pub mod AllTurns
@@ -24,4 +25,5 @@ pub mod Refusals
 pub mod Ran
 pub mod PlainReaches
 pub mod Unambiguous
+pub mod ReadBack
 pub mod Demand3

@@ -1,5 +1,5 @@
--- What a reading has at the nodes that an expression makes, the expression can give, with what the reading has at the variables' arrows. (The other way,
--- from what the expression gives to a reading of its nodes, is in Fresh.)
+-- What a reading has at the nodes that an expression makes, the expression can give, with what the reading has at the variables'
+-- arrows. (The other way, from what the expression gives to a reading of its nodes, is in Fresh.)
 use mathlib.Core.Bool.{Bool, true, false}
 use mathlib.Core.Path.{_≡_, refl, sym, subst}
 use mathlib.Core.Logic.{_⊎_, inl, inr}
@@ -14,7 +14,8 @@ use Rattle.machine.specs.Made.{make, makeRow, place}
 use Rattle.rewriting.specs.Scoped.{Scoped, ScopedRow}
 use Rattle.meaning.specs.Partial.{Part, bot, ofList, _⊑_, Gives, GivesRow}
 use Rattle.meaning.specs.Readings.{Side, left, right, sideOf, OperationGives, Agrees}
-use Rattle.meaning.proofs.Order.{⊑-trans, ⊑-of-eq, ⊑ˡ-refl, toList-ofList, gives-mono, agrees-constructor, agrees-operation, agrees-choice, agrees-fail, agrees-forward}
+use Rattle.meaning.proofs.Order.{⊑-trans, ⊑-of-eq, ⊑ˡ-refl, toList-ofList, gives-mono, agrees-constructor, agrees-operation}
+use Rattle.meaning.proofs.Order.{agrees-choice, agrees-fail, agrees-forward}
 use Rattle.meaning.proofs.Raise.{getD-map}
 
 -- nodes numbered from n on agree with what π has
@@ -23,6 +24,7 @@ Fits B δ π n [] = Unit
 Fits B δ π n (x ∷ xs) = Agrees B δ π x (π n) × Fits B δ π (suc n) xs
 
 module _ (B : Book) (δ : ℕ → Side) (π : ℕ → Part) where
+  -- it is enough that each agrees by its place
   pub fits-of : (n : ℕ) (xs : List Node) → ((j : ℕ) → j < length xs → Agrees B δ π (getD xs j fail) (π (n + j))) → Fits B δ π n xs
   fits-of n [] a = tt
   fits-of n (x ∷ xs) a = (
@@ -30,6 +32,7 @@ module _ (B : Book) (δ : ℕ → Side) (π : ℕ → Part) where
     fits-of (suc n) xs (λ j lt. subst (λ m. Agrees B δ π (getD xs j fail) (π m)) (omega arith) (a (suc j) (omega arith))),
   )
 
+  -- nodes one behind the other fit, each where it begins
   pub fits-append : (n : ℕ) (xs ys : List Node) → Fits B δ π n (xs ++ ys) → Fits B δ π n xs × Fits B δ π (n + length xs) ys
   fits-append n [] ys us = (tt, subst (λ m. Fits B δ π m ys) (omega arith) us)
   fits-append n (x ∷ xs) ys (a, us) =
@@ -37,6 +40,7 @@ module _ (B : Book) (δ : ℕ → Side) (π : ℕ → Part) where
       ((a, r .0), subst (λ m. Fits B δ π m ys) (omega arith) (r .1))
 
 module _ (B : Book) (δ : ℕ → Side) (π : ℕ → Part) where
+  -- what an application may have, the expression gives whose arguments give what its arrows have
   apply-gives : (f : ℕ) (xs : List ℕ) {es : Exprs} {ρ : List Part} (p : Part) → GivesRow B es ρ (ofList (map π xs))
       → Agrees B δ π (apply f xs) p → Gives B (Expr.apply f es) ρ p
   apply-gives f xs {es} {ρ} p row a = go (B .isConstructor f) refl
@@ -49,6 +53,7 @@ module _ (B : Book) (δ : ℕ → Side) (π : ℕ → Part) where
       go true k = gives-mono (Gives.constructor k row) (⊑ˡ-refl ρ) (agrees-constructor B δ π refl k .0 a)
       go false k = operation k (agrees-operation B δ π refl k .0 a)
 
+  -- what a choice may have, one of its sides gives
   choice-gives : (i l r : ℕ) {a b : Expr} {ρ : List Part} {p : Part} → Gives B a ρ (π l) → Gives B b ρ (π r) → p ⊑ π (sideOf (δ i) l r)
       → Gives B (Expr.choice a b) ρ p
   unfolding sideOf
@@ -61,6 +66,7 @@ module _ (B : Book) (δ : ℕ → Side) (π : ℕ → Part) where
   mutual
     unfolding make ofList
 
+    -- what a reading has at the nodes of an expression, and of a row of them, these can give
     pub make-gives : (e : Expr) (env : List ℕ) (n k : ℕ) → Scoped (length env) e → Fits B δ π n (make e env n k .nodes)
         → Gives B e (map π env) (π (make e env n k .arrow))
     make-gives (Expr.var x) env n k scoped fits = Gives.var (⊑-of-eq (sym (getD-map π env x scoped)))
@@ -83,6 +89,7 @@ module _ (B : Book) (δ : ℕ → Side) (π : ℕ → Part) where
         let (fa, fr) = fits-append B δ π n (a .nodes) (r .nodes) fits in
         GivesRow.more (make-gives e env n k se fa) (makeRow-gives es env (n + length (a .nodes)) (a .choices) ses fr)
 
+  -- the same of an expression that takes the place of a node, which may have p
   pub place-gives : (e : Expr) (env : List ℕ) (n k : ℕ) (p : Part) → Scoped (length env) e → Agrees B δ π (place e env n k .top) p
       → Fits B δ π n (place e env n k .nodes) → Gives B e (map π env) p
   unfolding place

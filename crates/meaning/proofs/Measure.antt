@@ -1,5 +1,5 @@
--- Readings with sizes: how many steps the derivations in a reading still stand for. A sized reading may be raised (its partial values enlarged)
--- without its sizes growing, and every reading has sizes.
+-- Readings with sizes: how many steps the derivations in a reading still stand for. A sized reading may be raised (its partial
+-- values enlarged) without its sizes growing, and every reading has sizes.
 use mathlib.Core.Bool.{Bool, true, false}
 use mathlib.Core.Path.{_≡_, refl}
 use mathlib.Core.Logic.{inl, inr}
@@ -12,7 +12,8 @@ use Rattle.book.specs.Rules.{Book}
 use Rattle.nodes.specs.Nodes.{Node, at}
 use Rattle.rewriting.proofs.Lists.{firsts}
 use Rattle.rewriting.proofs.Heaps.{ChoiceBelow, ChoicesBelow}
-use Rattle.meaning.specs.Partial.{Part, Parts, bot, con, noParts, moreParts, toList, ofList, _⊑_, _⊑*_, con⊑, none⊑, more⊑, Hits, Gives, GivesRow}
+use Rattle.meaning.specs.Partial.{Part, Parts, bot, con, noParts, moreParts, toList, ofList, _⊑_, _⊑*_, con⊑, none⊑, more⊑}
+use Rattle.meaning.specs.Partial.{Hits, Gives, GivesRow}
 use Rattle.meaning.specs.Readings.{Side, sideOf, ApplyAgrees, Agrees}
 use Rattle.meaning.proofs.Order.{⊑-trans, _⊑ˡ_, []⊑, _∷⊑_, _⊑ᶠ_, getD-mono, map-mono, ofList-mono, hits-mono}
 use Rattle.meaning.proofs.Order.{agrees-bot, agrees-constructor, agrees-operation, agrees-choice, agrees-forward}
@@ -23,6 +24,7 @@ unfolding toList ofList
 below-row [] none⊑ = []⊑
 below-row (q ∷ qs) (more⊑ a at′) = a ∷⊑ below-row qs at′
 
+-- and on the right only
 pub row-below : {qs : List Part} (ps : Parts) → toList ps ⊑ˡ qs → ps ⊑* ofList qs
 unfolding toList ofList
 row-below noParts []⊑ = none⊑
@@ -34,18 +36,22 @@ module _ (B : Book) where
     pub data GivesIn : ℕ → Expr → List Part → Part → Type 0 where
       nothing : {s : ℕ} {e : Expr} {ρ : List Part} → GivesIn s e ρ bot
       var : {s x : ℕ} {ρ : List Part} {p : Part} → p ⊑ getD ρ x bot → GivesIn s (Expr.var x) ρ p
-      constructor : {s c : ℕ} {es : Exprs} {ρ : List Part} {ps : Parts} → B .isConstructor c ≡ true → GivesRowIn s es ρ ps → GivesIn s (Expr.apply c es) ρ (con c ps)
+      constructor : {s c : ℕ} {es : Exprs} {ρ : List Part} {ps : Parts} → B .isConstructor c ≡ true → GivesRowIn s es ρ ps
+          → GivesIn s (Expr.apply c es) ρ (con c ps)
       operation : {s r t f : ℕ} {es : Exprs} {ρ : List Part} {ps : Parts} {e : Expr} {ρ′ : List Part} {p : Part} → r + t < s
-          → B .isConstructor f ≡ false → GivesRowIn r es ρ ps → Hits B (B .tree f) (toList ps) e ρ′ → GivesIn t e ρ′ p → GivesIn s (Expr.apply f es) ρ p
+          → B .isConstructor f ≡ false → GivesRowIn r es ρ ps → Hits B (B .tree f) (toList ps) e ρ′ → GivesIn t e ρ′ p
+          → GivesIn s (Expr.apply f es) ρ p
       left : {s t : ℕ} {a b : Expr} {ρ : List Part} {p : Part} → t < s → GivesIn t a ρ p → GivesIn s (Expr.choice a b) ρ p
       right : {s t : ℕ} {a b : Expr} {ρ : List Part} {p : Part} → t < s → GivesIn t b ρ p → GivesIn s (Expr.choice a b) ρ p
 
+    -- the same of a row
     pub data GivesRowIn : ℕ → Exprs → List Part → Parts → Type 0 where
       none : {s : ℕ} {ρ : List Part} → GivesRowIn s Exprs.noExprs ρ noParts
       more : {s r t : ℕ} {e : Expr} {es : Exprs} {ρ : List Part} {p : Part} {ps : Parts} → r + t ≤ s
           → GivesIn r e ρ p → GivesRowIn t es ρ ps → GivesRowIn s (Exprs.moreExprs e es) ρ (moreParts p ps)
 
   mutual
+    -- what can be given can be given in some size
     pub gives-in : {e : Expr} {ρ : List Part} {p : Part} → Gives B e ρ p → (s : ℕ) × GivesIn s e ρ p
     gives-in Gives.nothing = (0, nothing)
     gives-in (Gives.var h) = (0, var h)
@@ -68,6 +74,7 @@ module _ (B : Book) where
     raise-gives (left l g) b = left l (raise-gives g b)
     raise-gives (right l g) b = right l (raise-gives g b)
 
+    -- the same of a row
     pub raise-row : {s : ℕ} {es : Exprs} {ρ ρ′ : List Part} {ps : Parts} → GivesRowIn s es ρ ps → ρ ⊑ˡ ρ′ → GivesRowIn s es ρ′ ps
     raise-row none b = none
     raise-row (more l g r) b = more l (raise-gives g b) (raise-row r b)
@@ -76,7 +83,8 @@ module _ (B : Book) where
     -- the partial value p may stand at a node with this content, by a derivation of size s at most
     pub data AgreesIn : ℕ → Node → Part → Type 0 where
       idle : {s : ℕ} {x : Node} → AgreesIn s x bot
-      constructor : {s c : ℕ} {xs : List ℕ} {p : Part} → B .isConstructor c ≡ true → p ⊑ con c (ofList (map π xs)) → AgreesIn s (Node.apply c xs) p
+      constructor : {s c : ℕ} {xs : List ℕ} {p : Part} → B .isConstructor c ≡ true → p ⊑ con c (ofList (map π xs))
+          → AgreesIn s (Node.apply c xs) p
       operation : {s t f : ℕ} {xs : List ℕ} {p : Part} {e : Expr} {ρ : List Part} → t < s
           → B .isConstructor f ≡ false → Hits B (B .tree f) (map π xs) e ρ → GivesIn t e ρ p → AgreesIn s (Node.apply f xs) p
       choice : {s i l r : ℕ} {p : Part} → 0 < s → p ⊑ π (sideOf (δ i) l r) → AgreesIn s (Node.choice i l r) p
@@ -85,17 +93,22 @@ module _ (B : Book) where
     -- the nodes of a heap, each with its partial value and its size
     pub data Read : List Node → List Part → List ℕ → Type 0 where
       none : Read [] [] []
-      more : {x : Node} {p : Part} {s : ℕ} {h : List Node} {ps : List Part} {ss : List ℕ} → AgreesIn s x p → Read h ps ss → Read (x ∷ h) (p ∷ ps) (s ∷ ss)
+      more : {x : Node} {p : Part} {s : ℕ} {h : List Node} {ps : List Part} {ss : List ℕ} → AgreesIn s x p → Read h ps ss
+          → Read (x ∷ h) (p ∷ ps) (s ∷ ss)
 
+    -- each node agrees with its part, by its size
     pub read-at : {h : List Node} {ps : List Part} {ss : List ℕ} → Read h ps ss → (m : ℕ) → AgreesIn (getD ss m 0) (at h m) (getD ps m bot)
     read-at none m = idle
     read-at (more a r) zero = a
     read-at (more a r) (suc m) = read-at r m
 
-    pub read-append : {h h′ : List Node} {ps ps′ : List Part} {ss ss′ : List ℕ} → Read h ps ss → Read h′ ps′ ss′ → Read (h ++ h′) (ps ++ ps′) (ss ++ ss′)
+    -- heaps one behind the other
+    pub read-append : {h h′ : List Node} {ps ps′ : List Part} {ss ss′ : List ℕ} → Read h ps ss → Read h′ ps′ ss′
+        → Read (h ++ h′) (ps ++ ps′) (ss ++ ss′)
     read-append none r′ = r′
     read-append (more a r) r′ = more a (read-append r r′)
 
+    -- a node replaced by one that agrees with its part
     pub read-set : {h : List Node} {ps : List Part} {ss : List ℕ} {x : Node} {s : ℕ} (n : ℕ)
         → Read h ps ss → AgreesIn s x (getD ps n bot) → Read (set h n x) ps (set ss n s)
     read-set n none b = none
@@ -113,7 +126,9 @@ module _ (B : Book) where
   raise-agrees {δ′} same le a (choice {i} {l} {r} z h) = choice z (⊑-trans (rw (same i a) at h) (le (sideOf (δ′ i) l r)))
   raise-agrees same le f (forward {m} h) = forward (⊑-trans h (le m))
 
-  pub raise-read : {δ δ′ : ℕ → Side} {π π′ : ℕ → Part} {k : ℕ} {h : List Node} {ps : List Part} {ss : List ℕ} → ((i : ℕ) → i < k → δ i ≡ δ′ i) → π ⊑ᶠ π′
+  -- the same of a whole heap
+  pub raise-read : {δ δ′ : ℕ → Side} {π π′ : ℕ → Part} {k : ℕ} {h : List Node} {ps : List Part} {ss : List ℕ}
+      → ((i : ℕ) → i < k → δ i ≡ δ′ i) → π ⊑ᶠ π′
       → ChoicesBelow k h → Read δ π h ps ss → Read δ′ π′ h ps ss
   raise-read same le below none = none
   raise-read same le below (more a r) = more (raise-agrees same le (below 0) a) (raise-read same le (λ m. below (suc m)) r)
@@ -154,6 +169,7 @@ module _ (B : Book) where
   agrees-in Node.fail a = (0, rw a idle)
   agrees-in (Node.forward m) a = (0, forward a)
 
+  -- so every reading of a heap can be sized
   pub read-of : {δ : ℕ → Side} {π : ℕ → Part} (h : List Node) (ρ : ℕ → Part) → ((m : ℕ) → Agrees B δ π (at h m) (ρ m))
       → (ss : List ℕ) × Read δ π h (firsts (length h) ρ) ss
   unfolding firsts

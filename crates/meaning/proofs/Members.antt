@@ -18,14 +18,17 @@ module _ {A : Type 0} {P : A → Type 0} where
   any-at d (first p) = (zero, omega arith, p)
   any-at d (later p) = let (i, lt, q) = any-at d p in (suc i, omega arith, q)
 
+  -- it holds of some element of a longer list
   pub any-left : {l : List A} (m : List A) → Any P l → Any P (l ++ m)
   any-left m (first p) = first p
   any-left m (later p) = later (any-left m p)
 
+  -- on either end
   pub any-right : (l : List A) {m : List A} → Any P m → Any P (l ++ m)
   any-right [] p = p
   any-right (a ∷ l) p = later (any-right l p)
 
+  -- it is in one part or in the other
   pub any-split : (l : List A) {m : List A} → Any P (l ++ m) → Any P l ⊎ Any P m
   any-split [] p = inr p
   any-split (a ∷ l) (first p) = inl (first p)
@@ -40,10 +43,12 @@ module _ {A : Type 0} {P : A → Type 0} where
   any-map (All.more q qs) f (first p) = first (f _ q p)
   any-map (All.more q qs) f (later p) = later (any-map qs f p)
 
+  -- what holds of each holds of each in both parts
   pub all-split : (l : List A) {m : List A} → All P (l ++ m) → All P l × All P m
   all-split [] p = (All.none, p)
   all-split (a ∷ l) (All.more p ps) = let (x, y) = all-split l ps in (All.more p x, y)
 
+  -- what follows from it holds of each, too
   pub all-map : {Q : A → Type 0} {l : List A} → ((a : A) → P a → Q a) → All P l → All Q l
   all-map f All.none = All.none
   all-map f (All.more p ps) = All.more (f _ p) (all-map f ps)
@@ -54,12 +59,14 @@ pub data Pairwise {A : Type 0} (R : A → A → Type 0) : List A → Type 0 wher
   more : {a : A} {l : List A} → All (R a) l → Pairwise R l → Pairwise R (a ∷ l)
 
 module _ {A : Type 0} {R : A → A → Type 0} where
+  -- so it holds of those at two places
   pub pairwise-at : {l : List A} (d : A) (i j : ℕ) → Pairwise R l → i < j → j < length l → R (getD l i d) (getD l j d)
   pairwise-at d i j Pairwise.none lt le = absurd (not-suc-le-zero le)
   pairwise-at d i zero (Pairwise.more r rs) lt le = absurd (not-suc-le-zero lt)
   pairwise-at d zero (suc j) (Pairwise.more r rs) lt le = all-at d j r (le-of-suc-le-suc le)
   pairwise-at d (suc i) (suc j) (Pairwise.more r rs) lt le = pairwise-at d i j rs (le-of-suc-le-suc lt) (le-of-suc-le-suc le)
 
+  -- and of every two of the rear part
   pub pairwise-right : (l : List A) {m : List A} → Pairwise R (l ++ m) → Pairwise R m
   pairwise-right [] p = p
   pairwise-right (a ∷ l) (Pairwise.more r rs) = pairwise-right l rs
@@ -73,7 +80,8 @@ module _ {A : Type 0} {R : A → A → Type 0} where
         Pairwise.more (all-append x (All.more (symmetric a b s) y)) (insert l m p r)
 
     -- several more in between
-    pub inserts : (l m : List A) {es : List A} → Pairwise R (l ++ m) → Pairwise R es → All (λ e. All (R e) (l ++ m)) es → Pairwise R (l ++ (es ++ m))
+    pub inserts : (l m : List A) {es : List A} → Pairwise R (l ++ m) → Pairwise R es → All (λ e. All (R e) (l ++ m)) es
+        → Pairwise R (l ++ (es ++ m))
     inserts l m p Pairwise.none All.none = p
     inserts l m p (Pairwise.more {l = es} r rs) (All.more q qs) =
         let (x, y) = all-split l q in

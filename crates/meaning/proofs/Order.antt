@@ -1,5 +1,5 @@
--- The order of partial values, and that all that readings are made of respects it: whoever knows more of the variables, or of the nodes, can give
--- at least as much.
+-- The order of partial values, and that all that readings are made of respects it: whoever knows more of the variables, or of the
+-- nodes, can give at least as much.
 use mathlib.Core.Bool.{Bool, true, false}
 use mathlib.Core.Path.{_≡_, refl, ap, ap₂}
 use mathlib.Core.Logic.{_⊎_, inl, inr, _↔_, Iff·rfl}
@@ -12,10 +12,12 @@ use Rattle.book.specs.Trees.{Tree}
 use Rattle.book.specs.Rules.{Book}
 use Rattle.nodes.specs.Nodes.{Node, apply, choice, fail, forward, at}
 use Rattle.rewriting.specs.Rewriting.{Value, Values, con, noValues, moreValues}
-use Rattle.meaning.specs.Partial.{Part, Parts, bot, noParts, moreParts, toList, ofList, _⊑_, bot⊑, con⊑, _⊑*_, none⊑, more⊑, Hits, Gives, GivesRow}
+use Rattle.meaning.specs.Partial.{Part, Parts, bot, noParts, moreParts, toList, ofList, _⊑_, bot⊑, con⊑, _⊑*_, none⊑, more⊑}
+use Rattle.meaning.specs.Partial.{Hits, Gives, GivesRow}
 use Rattle.meaning.specs.Readings.{Side, sideOf, OperationGives, ApplyAgrees, Agrees, whole, wholes}
 
 mutual
+  -- each says no more than itself
   pub ⊑-refl : (p : Part) → p ⊑ p
   ⊑-refl bot = bot⊑
   ⊑-refl (Part.con c ps) = con⊑ (⊑*-refl ps)
@@ -25,6 +27,7 @@ mutual
   ⊑*-refl (moreParts p ps) = more⊑ (⊑-refl p) (⊑*-refl ps)
 
 mutual
+  -- who says no more than one who says no more, says no more
   pub ⊑-trans : {p q r : Part} → p ⊑ q → q ⊑ r → p ⊑ r
   ⊑-trans bot⊑ k = bot⊑
   ⊑-trans (con⊑ h) (con⊑ k) = con⊑ (⊑*-trans h k)
@@ -33,9 +36,11 @@ mutual
   ⊑*-trans none⊑ k = k
   ⊑*-trans (more⊑ h hs) (more⊑ k ks) = more⊑ (⊑-trans h k) (⊑*-trans hs ks)
 
+-- the same say no more
 pub ⊑-of-eq : {p q : Part} → p ≡ q → p ⊑ q
 ⊑-of-eq {p} {q} e = rw e (⊑-refl q)
 
+-- only nothing says no more than nothing
 pub ⊑-bot : {p : Part} → p ⊑ bot → p ≡ bot
 ⊑-bot bot⊑ = refl
 
@@ -43,9 +48,11 @@ pub ⊑-bot : {p : Part} → p ⊑ bot → p ≡ bot
 pub ⊑-con : {c : ℕ} {ps : Parts} {q : Part} → Part.con c ps ⊑ q → (qs : Parts) × (q ≡ Part.con c qs) × ps ⊑* qs
 ⊑-con (con⊑ {qs = rs} h) = (rs, refl, h)
 
+-- two constructors, of which one says no more, are the same
 pub con⊑-same : {c d : ℕ} {ps qs : Parts} → Part.con c ps ⊑ Part.con d qs → (c ≡ d) × ps ⊑* qs
 con⊑-same (con⊑ h) = (refl, h)
 
+-- a constructor says more than nothing
 pub con≢bot : {c : ℕ} {ps : Parts} → Part.con c ps ⊑ bot → ⊥
 con≢bot h = let e = ⊑-bot h in let z : _≡_ {A = ℕ} 0 1 = cc in omega arith
 
@@ -53,6 +60,7 @@ con≢bot h = let e = ⊑-bot h in let z : _≡_ {A = ℕ} 0 1 = cc in omega ari
 mutual
   unfolding whole
 
+  -- so who says at least a whole value says it
   pub ⊑-whole : (v : Value) {p : Part} → whole v ⊑ p → p ≡ whole v
   ⊑-whole (con c vs) (con⊑ h) = ap (Part.con c) (⊑*-wholes vs h)
 
@@ -72,31 +80,38 @@ infix 40 _⊑ᶠ_
 abbrev pub _⊑ᶠ_ : (ℕ → Part) → (ℕ → Part) → Type 0
 π ⊑ᶠ σ = (n : ℕ) → π n ⊑ σ n
 
+-- lists: each says no more than itself
 pub ⊑ˡ-refl : (ps : List Part) → ps ⊑ˡ ps
 ⊑ˡ-refl [] = []⊑
 ⊑ˡ-refl (p ∷ ps) = ⊑-refl p ∷⊑ ⊑ˡ-refl ps
 
+-- and through a third
 pub ⊑ˡ-trans : {ps qs rs : List Part} → ps ⊑ˡ qs → qs ⊑ˡ rs → ps ⊑ˡ rs
 ⊑ˡ-trans []⊑ k = k
 ⊑ˡ-trans (h ∷⊑ hs) (k ∷⊑ ks) = ⊑-trans h k ∷⊑ ⊑ˡ-trans hs ks
 
+-- they are equally long
 pub ⊑ˡ-length : {ps qs : List Part} → ps ⊑ˡ qs → length ps ≡ length qs
 ⊑ˡ-length []⊑ = refl
 ⊑ˡ-length (h ∷⊑ hs) = ap suc (⊑ˡ-length hs)
 
+-- and so ordered at each place
 pub getD-mono : {ps qs : List Part} → ps ⊑ˡ qs → (x : ℕ) → getD ps x bot ⊑ getD qs x bot
 getD-mono []⊑ x = bot⊑
 getD-mono (h ∷⊑ hs) zero = h
 getD-mono (h ∷⊑ hs) (suc x) = getD-mono hs x
 
+-- joined, they are
 pub append-mono : {ps qs rs ss : List Part} → ps ⊑ˡ qs → rs ⊑ˡ ss → ps ++ rs ⊑ˡ qs ++ ss
 append-mono []⊑ k = k
 append-mono (h ∷⊑ hs) k = h ∷⊑ append-mono hs k
 
+-- and so are the values of two functions so ordered
 pub map-mono : {π σ : ℕ → Part} → π ⊑ᶠ σ → (xs : List ℕ) → map π xs ⊑ˡ map σ xs
 map-mono h [] = []⊑
 map-mono h (x ∷ xs) = h x ∷⊑ map-mono h xs
 
+-- rows of parts as lists, and back, keep the order
 pub toList-mono : {ps qs : Parts} → ps ⊑* qs → toList ps ⊑ˡ toList qs
 unfolding toList
 toList-mono none⊑ = []⊑
@@ -107,6 +122,7 @@ unfolding ofList
 ofList-mono []⊑ = none⊑
 ofList-mono (h ∷⊑ hs) = more⊑ h (ofList-mono hs)
 
+-- there and back
 pub toList-ofList : (ps : List Part) → toList (ofList ps) ≡ ps
 unfolding toList ofList
 toList-ofList [] = refl
@@ -122,6 +138,7 @@ hits-mono {B} {σ} le (Hits.branch {x = x} e c hits) =
     (σ′, Hits.branch e′ c hits′, le′)
 
 mutual
+  -- with more known of the variables an expression gives as much, and less
   pub gives-mono : {B : Book} {e : Expr} {ρ σ : List Part} {p q : Part} → Gives B e ρ p → ρ ⊑ˡ σ → q ⊑ p → Gives B e σ q
   gives-mono Gives.nothing le bot⊑ = Gives.nothing
   gives-mono (Gives.var {x = x} h) le k = Gives.var (⊑-trans k (⊑-trans h (getD-mono le x)))
@@ -136,12 +153,15 @@ mutual
   givesRow-mono GivesRow.none le none⊑ = GivesRow.none
   givesRow-mono (GivesRow.more g gs) le (more⊑ k ks) = GivesRow.more (gives-mono g le k) (givesRow-mono gs le ks)
 
+-- so does an operation
 pub operationGives-mono : {B : Book} {f : ℕ} {ρ σ : List Part} {p q : Part} → ρ ⊑ˡ σ → q ⊑ p → OperationGives B f ρ p → OperationGives B f σ q
 operationGives-mono le k o =
     let (σ′, hits′, le′) = hits-mono le (o .hits) in
     record { expr = o .expr; env = σ′; hits = hits′; gives = gives-mono (o .gives) le′ k }
 
-pub applyAgrees-mono : (B : Book) (b : Bool) (f : ℕ) {ρ σ : List Part} {p q : Part} → ρ ⊑ˡ σ → q ⊑ p → ApplyAgrees B b f ρ p → ApplyAgrees B b f σ q
+-- what may stand at an application may still
+pub applyAgrees-mono : (B : Book) (b : Bool) (f : ℕ) {ρ σ : List Part} {p q : Part} → ρ ⊑ˡ σ → q ⊑ p → ApplyAgrees B b f ρ p
+    → ApplyAgrees B b f σ q
 unfolding ApplyAgrees
 applyAgrees-mono B true f le k h = ⊑-trans k (⊑-trans h (con⊑ (ofList-mono le)))
 applyAgrees-mono B false f le k (inl e) = inl (⊑-bot (rw e at k))
@@ -154,6 +174,15 @@ agrees-mono B δ (apply f xs) le k h = applyAgrees-mono B (B .isConstructor f) f
 agrees-mono B δ (choice i l r) le k h = ⊑-trans k (⊑-trans h (le (sideOf (δ i) l r)))
 agrees-mono B δ fail le k h = ⊑-bot (rw h at k)
 agrees-mono B δ (forward m) le k h = ⊑-trans k (⊑-trans h (le m))
+
+-- sides may be changed where no choice has their number
+pub agrees-sides : (B : Book) (δ δ′ : ℕ → Side) (π : ℕ → Part) (x : Node) (p : Part) → ((i l r : ℕ) → x ≡ choice i l r → δ i ≡ δ′ i)
+    → Agrees B δ π x p → Agrees B δ′ π x p
+unfolding Agrees
+agrees-sides B δ δ′ π (apply f xs) p same a = a
+agrees-sides B δ δ′ π (choice i l r) p same a = rw (same i l r refl) at a
+agrees-sides B δ δ′ π fail p same a = a
+agrees-sides B δ δ′ π (forward m) p same a = a
 
 -- nothing may stand everywhere
 pub agrees-bot : (B : Book) (δ : ℕ → Side) (π : ℕ → Part) (x : Node) → Agrees B δ π x bot
@@ -169,24 +198,29 @@ agrees-bot B δ π (forward m) = bot⊑
 
 -- what agreement says at each kind of node
 module _ (B : Book) (δ : ℕ → Side) (π : ℕ → Part) where
+  -- a constructor
   pub agrees-constructor : {x : Node} {c : ℕ} {xs : List ℕ} {p : Part} → x ≡ apply c xs → B .isConstructor c ≡ true
       → Agrees B δ π x p ↔ p ⊑ Part.con c (ofList (map π xs))
   unfolding Agrees
   agrees-constructor e k = rw (e, k) Iff·rfl
 
+  -- an operation
   pub agrees-operation : {x : Node} {f : ℕ} {xs : List ℕ} {p : Part} → x ≡ apply f xs → B .isConstructor f ≡ false
       → Agrees B δ π x p ↔ ((p ≡ bot) ⊎ OperationGives B f (map π xs) p)
   unfolding Agrees
   agrees-operation e k = rw (e, k) Iff·rfl
 
+  -- a choice
   pub agrees-choice : {x : Node} {i l r : ℕ} {p : Part} → x ≡ choice i l r → Agrees B δ π x p ↔ p ⊑ π (sideOf (δ i) l r)
   unfolding Agrees
   agrees-choice e = rw e Iff·rfl
 
+  -- a fail
   pub agrees-fail : {x : Node} {p : Part} → x ≡ fail → Agrees B δ π x p ↔ (p ≡ bot)
   unfolding Agrees
   agrees-fail e = rw e Iff·rfl
 
+  -- a forward
   pub agrees-forward : {x : Node} {m : ℕ} {p : Part} → x ≡ forward m → Agrees B δ π x p ↔ p ⊑ π m
   unfolding Agrees
   agrees-forward e = rw e Iff·rfl

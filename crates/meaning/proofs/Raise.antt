@@ -1,5 +1,5 @@
--- A reading may be raised: where a node may have more, by what stands there, another reading gives it more and no node less. So may the
--- forwards that lead to it, and all the nodes that a path through a tree looks at.
+-- A reading may be raised: where a node may have more, by what stands there, another reading gives it more and no node less. So may
+-- the forwards that lead to it, and all the nodes that a path through a tree looks at.
 use mathlib.Core.Bool.{true}
 use mathlib.Core.Path.{_≡_, refl, sym, _∙_}
 use mathlib.Core.List.{List, [], _∷_, _++_, map, map-append}
@@ -15,7 +15,9 @@ use Rattle.rewriting.specs.Rewriting.{Leads, Ends}
 use Rattle.rewriting.proofs.Update.{update, update-same, update-other}
 use Rattle.meaning.specs.Partial.{Part, bot, toList, ofList, _⊑_, bot⊑, Hits}
 use Rattle.meaning.specs.Readings.{Side, sideOf, Agrees, Reads}
-use Rattle.meaning.proofs.Order.{⊑-refl, ⊑-trans, ⊑-of-eq, ⊑-con, _⊑ˡ_, _⊑ᶠ_, ⊑ˡ-refl, ⊑ˡ-trans, getD-mono, append-mono, map-mono, toList-mono, toList-ofList, hits-mono, agrees-mono, agrees-constructor, agrees-choice, agrees-forward}
+use Rattle.meaning.proofs.Order.{⊑-refl, ⊑-trans, ⊑-of-eq, ⊑-con, _⊑ˡ_, _⊑ᶠ_, ⊑ˡ-refl, ⊑ˡ-trans, getD-mono, append-mono}
+use Rattle.meaning.proofs.Order.{map-mono, toList-mono, toList-ofList, hits-mono, agrees-mono, agrees-constructor}
+use Rattle.meaning.proofs.Order.{agrees-choice, agrees-forward}
 
 -- what a variable that is there stands for
 pub getD-map : (π : ℕ → Part) (xs : List ℕ) (j : ℕ) → j < length xs → getD (map π xs) j bot ≡ π (getD xs j 0)
@@ -23,6 +25,7 @@ getD-map π [] j lt = absurd (not-suc-le-zero lt)
 getD-map π (x ∷ xs) zero lt = refl
 getD-map π (x ∷ xs) (suc j) lt = getD-map π xs j (le-of-suc-le-suc lt)
 
+-- and one that is not there stands for nothing
 pub getD-map-below : (π : ℕ → Part) (xs : List ℕ) (j : ℕ) → getD (map π xs) j bot ⊑ π (getD xs j 0)
 getD-map-below π [] j = bot⊑
 getD-map-below π (x ∷ xs) zero = ⊑-refl (π x)
@@ -30,6 +33,7 @@ getD-map-below π (x ∷ xs) (suc j) = getD-map-below π xs j
 
 -- The nodes in F are left out: they need not agree, and they are never raised. (Where none is left out, a reading.)
 module _ (B : Book) (h : Heap) (δ : ℕ → Side) (F : ℕ → Type 0) where
+  -- agreement at the other nodes
   abbrev pub ReadsBut : (ℕ → Part) → Type 0
   ReadsBut π = (m : ℕ) → ¬ F m → Agrees B δ π (at h m) (π m)
 
@@ -85,7 +89,9 @@ module _ (B : Book) (h : Heap) (δ : ℕ → Side) (F : ℕ → Type 0) where
         let full = agrees-constructor B δ π e k .1 (⊑-refl (Part.con c (ofList (map π xs)))) in
         raise-along l (raise m bound reads (agrees-constructor B δ π e k .0 (reads m bound)) full)
 
-    pub raise-choice : {π : ℕ → Part} {n m i y z : ℕ} → Leads h n m → at h m ≡ choice i y z → ¬ F m → ReadsBut π → Raised π n (π (sideOf (δ i) y z))
+    -- to what the side taken has
+    pub raise-choice : {π : ℕ → Part} {n m i y z : ℕ} → Leads h n m → at h m ≡ choice i y z → ¬ F m → ReadsBut π
+        → Raised π n (π (sideOf (δ i) y z))
     raise-choice {π} {m} {i} {y} {z} l e bound reads =
         raise-along l (raise m bound reads (agrees-choice B δ π e .0 (reads m bound)) (agrees-choice B δ π e .1 (⊑-refl (π (sideOf (δ i) y z)))))
 
@@ -94,7 +100,8 @@ module _ (B : Book) (h : Heap) (δ : ℕ → Side) (F : ℕ → Type 0) where
     leads-below π {n} reads Leads.here = ⊑-refl (π n)
     leads-below π {n} reads (Leads.along {m = k} e l) = ⊑-trans (agrees-forward B δ π e .0 (reads n (solid n k e))) (leads-below π reads l)
 
-    -- A reading above π in which the path through t, from the variables env, hits the rule e, with at least what π has at that rule's variables env′
+    -- A reading above π in which the path through t, from the variables env, hits the rule e, with at least what π has at that
+    -- rule's variables env′
     pub record Followed (π : ℕ → Part) (t : Tree) (env : List ℕ) (e : Expr) (env′ : List ℕ) : Type 0 where
       pub to : ℕ → Part
       pub above : π ⊑ᶠ to
@@ -104,6 +111,7 @@ module _ (B : Book) (h : Heap) (δ : ℕ → Side) (F : ℕ → Type 0) where
       pub knows : map π env′ ⊑ˡ vars
       pub kept : (q : ℕ) → F q → to q ≡ π q
 
+    -- the nodes that a path looks at may be raised so
     pub raise-path : {π : ℕ → Part} {t : Tree} {env : List ℕ} {e : Expr} {env′ : List ℕ}
         → ((q c : ℕ) (xs : List ℕ) → at h q ≡ apply c xs → B .isConstructor c ≡ true → ¬ F q)
         → ReadsBut π → Ends B h t env e env′ → Followed π t env e env′
@@ -139,6 +147,7 @@ module _ (B : Book) (h : Heap) (δ : ℕ → Side) (F : ℕ → Type 0) where
 abbrev pub Nowhere : ℕ → Type 0
 Nowhere q = ⊥
 
+-- a node has no more than what its forwards lead to
 pub reads-below : (B : Book) (h : Heap) (δ : ℕ → Side) (π : ℕ → Part) {n m : ℕ} → Reads B h δ π → Leads h n m → π n ⊑ π m
 reads-below B h δ π reads l = leads-below B h δ Nowhere (λ q k e z. z) π (λ m b. reads m) l
 

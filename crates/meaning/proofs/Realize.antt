@@ -1,5 +1,5 @@
--- Realization: a value that a reading gives to a node can be reached by rewriting. A step that the walk finds leads to a smaller reading, in which the root
--- has its value still; where it finds none, the root is the value.
+-- Realization: a value that a reading gives to a node can be reached by rewriting. A step that the walk finds leads to a smaller
+-- reading, in which the root has its value still; where it finds none, the root is the value.
 use mathlib.Core.Path.{_≡_, refl, sym, ap}
 use mathlib.Core.Logic.{⊎-elim}
 use mathlib.Core.List.{List, [], _∷_, _++_}
@@ -25,6 +25,7 @@ use Rattle.meaning.proofs.Measure.{AgreesIn, Read, read-at, read-append
 use Rattle.meaning.proofs.Fresh.{place-read}
 use Rattle.meaning.proofs.Demanded.{Redex, chosen, ruled, value}
 
+-- parts, sides and sizes by their places
 abbrev pub partAt : List Part → ℕ → Part
 partAt ps m = getD ps m bot
 
@@ -42,10 +43,13 @@ pub record Marked (B : Book) (h : Heap) (k : ℕ) : Type 0 where
   pub used : length sides ≡ k
   pub read : Read B (sideAt sides) (partAt parts) h parts sizes
 
-pub read-length : {B : Book} {δ : ℕ → Side} {π : ℕ → Part} {h : List Node} {ps : List Part} {ss : List ℕ} → Read B δ π h ps ss → length ps ≡ length h
+-- a read heap has a part for each node
+pub read-length : {B : Book} {δ : ℕ → Side} {π : ℕ → Part} {h : List Node} {ps : List Part} {ss : List ℕ} → Read B δ π h ps ss
+    → length ps ≡ length h
 read-length Read.none = refl
 read-length (Read.more a r) = ap suc (read-length r)
 
+-- more parts behind: no node has less
 pub part-grows : (ps qs : List Part) → partAt ps ⊑ᶠ partAt (ps ++ qs)
 part-grows [] qs m = bot⊑
 part-grows (p ∷ ps) qs zero = ⊑-refl p
@@ -64,11 +68,13 @@ record Next (B : Book) (h : Heap) (k : ℕ) (root : ℕ) (m : Marked B h k) : Ty
   smaller : sum (marked .sizes) < sum (m .sizes)
   keeps : partAt (m .parts) root ⊑ partAt (marked .parts) root
 
+-- an arrow leads to each side
 pub side-arrow : (d : Side) (i x y : ℕ) → Arrow (sideOf d x y) (Node.choice i x y)
 unfolding sideOf
 side-arrow Side.left i x y = leftSide
 side-arrow Side.right i x y = rightSide
 
+-- a choice may become either side
 side-step : {B : Book} {h : Heap} {k : ℕ} (d : Side) (n : ℕ) {i x y : ℕ} → at h n ≡ Node.choice i x y
     → Step B (record { heap = h; choices = k }) (record { heap = set h n (Node.forward (sideOf d x y)); choices = k })
 unfolding sideOf
@@ -79,6 +85,7 @@ side-step Side.right n e = Step.right n e
 pub appended : {A : Type 0} (d : A) (pre l : List A) {n : ℕ} → length pre ≡ n → Holds (λ m. getD (pre ++ l) m d) n l
 appended d pre l e = holds-of (λ m. getD (pre ++ l) m d) d _ l (λ j lt. rw (← e) (getD-append-add pre l j d))
 
+-- the step that was found, and what it leads to
 next : {B : Book} (h : Heap) (k : ℕ) {root : ℕ} → InRange h → ChoicesBelow k h → Finite h root → root < length h → (m : Marked B h k)
     → Redex B h (sideAt (m .sides)) (partAt (m .parts)) (sizeAt (m .sizes)) → Next B h k root m
 unfolding rewritten
@@ -126,7 +133,8 @@ next {B} h k {root} range below g l m (ruled n {f} {t} {xs} {env} {e} is o d lt 
     }
 
 -- by induction on the sum of the sizes
-realize : {B : Book} (h : Heap) (k : ℕ) {root : ℕ} (v : Value) (fuel : ℕ) → InRange h → ChoicesBelow k h → Finite h root → root < length h → (m : Marked B h k)
+realize : {B : Book} (h : Heap) (k : ℕ) {root : ℕ} (v : Value) (fuel : ℕ) → InRange h → ChoicesBelow k h → Finite h root → root < length h
+    → (m : Marked B h k)
     → sum (m .sizes) < fuel → whole v ⊑ partAt (m .parts) root → Reaches B (record { heap = h; choices = k }) root v
 unfolding Reaches
 realize h k v zero range below g l m small le = absurd (not-suc-le-zero small)
@@ -147,8 +155,10 @@ first-parts B δ h π agrees m = go (decLt m (length h))
     go (no l) =
         rw (agrees-fail B δ π (at-past h m (omega arith)) .0 (agrees m)) bot⊑
 
--- REALIZATION. In a heap with its arrows in range, its choice numbers used and its paths finite, a value that a node can have can be reached by rewriting.
-pub realization : {B : Book} (h : Heap) (k : ℕ) {root : ℕ} {d : Decisions} {v : Value} → InRange h → ChoicesBelow k h → Finite h root → root < length h
+-- REALIZATION. In a heap with its arrows in range, its choice numbers used and its paths finite, a value that a node can have can
+-- be reached by rewriting.
+pub realization : {B : Book} (h : Heap) (k : ℕ) {root : ℕ} {d : Decisions} {v : Value} → InRange h → ChoicesBelow k h → Finite h root
+    → root < length h
     → CanBe B h d root v → Reaches B (record { heap = h; choices = k }) root v
 realization {B} h k {root} {d} {v} range below g l c =
     let sides : List Side = firsts k (c .δ) in

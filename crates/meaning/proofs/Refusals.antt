@@ -11,7 +11,8 @@ use Rattle.reading.specs.Bytes.{byteAt, numberAt, lengthAt}
 use Rattle.symbols.specs.Symbols.{Symbols, Symbol}
 use Rattle.symbols.specs.SymbolPart.{sortsAt, symbolAt, symbolsAt, opened, symbolPart}
 use Rattle.expressions.specs.Expressions.{Expr}
-use Rattle.expressions.specs.ExpressionAt.{Left, ExprReader, nodeAt, variableAt, rowWith, choiceAt, appliedAt, applyAt, codeAt, exprAt, wholeAt, wholeExprAt}
+use Rattle.expressions.specs.ExpressionAt.{Left, ExprReader, nodeAt, variableAt, rowWith, choiceAt, appliedAt, applyAt, codeAt}
+use Rattle.expressions.specs.ExpressionAt.{exprAt, wholeAt, wholeExprAt}
 use Rattle.book.specs.Trees.{Tree}
 use Rattle.book.specs.TreeAt.{treesWith, branchedAt, branchAt, treeCodeAt, treeIn, itemAt, treesOf, treePart}
 use Rattle.book.specs.Admission.{readBook, questionOpened, askedAt, readQuestion}
@@ -31,7 +32,8 @@ numbered-refusal read e = absurd (let z : _≡_ {A = ℕ} 0 1 = cc in omega arit
 numbered-refusal {c} (refused {c = d} lt) e = let same : d ≡ c = cc in rw same at lt
 
 -- reading goes on
-next : {A B : Type 0} {r : Reading A} {more : A → ℕ → Reading B} → Numbered r → ((a : A) (q : ℕ) → Numbered (more a q)) → Numbered (_then_ r more)
+next : {A B : Type 0} {r : Reading A} {more : A → ℕ → Reading B} → Numbered r → ((a : A) (q : ℕ) → Numbered (more a q))
+    → Numbered (_then_ r more)
 unfolding _then_
 next (read {a} {p}) f = f a p
 next (refused lt) f = refused lt
@@ -51,6 +53,7 @@ either true n m = m
 -- ---- bytes, numbers and lengths; expressions
 
 module _ (bs : List ℕ) (base e : ℕ) where
+  -- a byte, a number, a length
   byte-numbered : (p : ℕ) → Numbered (byteAt bs base e p)
   unfolding byteAt
   byte-numbered p = unless _ _ _ (omega arith) λ _. read
@@ -67,17 +70,20 @@ module _ (bs : List ℕ) (base e : ℕ) where
   abbrev NumberedReader : ExprReader → Type 0
   NumberedReader expr = (s left p : ℕ) → Numbered (expr s left p)
 
+  -- a row of arguments
   row-numbered : (expr : ExprReader) → NumberedReader expr → (ss : List ℕ) (left p : ℕ) → Numbered (rowWith expr ss left p)
   unfolding rowWith
   row-numbered expr reads [] left p = read
   row-numbered expr reads (s ∷ ss) left p = next (reads s left p) λ a q. next (row-numbered expr reads ss (a .left) q) λ r t. read
 
+  -- a node is counted
   node-numbered : (left p : ℕ) {more : ℕ → Reading (Left Expr)} → ((l : ℕ) → Numbered (more l)) → Numbered (nodeAt base left p more)
   unfolding nodeAt
   node-numbered zero p f = refused-with _ _ (omega arith)
   node-numbered (suc left) p f = f left
 
   module _ (S : Symbols) where
+    -- an expression by its code
     code-numbered : (expr : ExprReader) → NumberedReader expr → (vars : List ℕ) (c : ℕ) → NumberedReader (codeAt bs base S e expr vars c)
     unfolding codeAt variableAt appliedAt applyAt choiceAt
     code-numbered expr reads vars zero s left p =
@@ -91,12 +97,14 @@ module _ (bs : List ℕ) (base e : ℕ) where
     code-numbered expr reads vars (suc (suc (suc zero))) s left p = node-numbered left p λ l. read
     code-numbered expr reads vars (suc (suc (suc (suc c)))) s left p = refused-with _ _ (omega arith)
 
+    -- however deep
     expr-numbered : (depth : ℕ) (vars : List ℕ) → NumberedReader (exprAt bs base S e depth vars)
     unfolding exprAt
     expr-numbered zero vars s left p = refused-with _ _ (omega arith)
     expr-numbered (suc depth) vars s left p =
         next (byte-numbered p) λ c _. code-numbered (exprAt bs base S e depth vars) (expr-numbered depth vars) vars c s left p
 
+    -- a whole expression
     whole-numbered : (vars : List ℕ) (s p : ℕ) → Numbered (wholeExprAt bs base S e vars s p)
     unfolding wholeExprAt wholeAt
     whole-numbered vars s p = next (expr-numbered (suc mostExpressionNodes) vars s mostExpressionNodes p) λ x q. read
@@ -104,11 +112,13 @@ module _ (bs : List ℕ) (base e : ℕ) where
 -- ---- symbols
 
 module _ (bs : List ℕ) where
+  -- the sorts of arguments
   sorts-numbered : (n p : ℕ) → Numbered (sortsAt bs n p)
   unfolding sortsAt
   sorts-numbered zero p = read
   sorts-numbered (suc n) p = unless _ _ _ (omega arith) λ _. next (sorts-numbered n _) λ ss q. read
 
+  -- a symbol
   symbol-numbered : (e before p : ℕ) → Numbered (symbolAt bs e before p)
   unfolding symbolAt
   symbol-numbered e before p =
@@ -116,12 +126,14 @@ module _ (bs : List ℕ) where
       unless _ _ _ (omega arith) λ _. unless _ _ _ (omega arith) λ _. unless _ _ _ (omega arith) λ _.
       next (sorts-numbered _ _) λ ss q. read
 
+  -- all symbols
   symbols-numbered : (bound e before p : ℕ) → Numbered (symbolsAt bs bound e before p)
   unfolding symbolsAt
   symbols-numbered zero e before p = read
   symbols-numbered (suc bound) e before p =
       either (ltb p e) read (next (symbol-numbered e before p) λ s q. next (symbols-numbered bound e (suc before) q) λ ss t. read)
 
+  -- the symbol part
   symbolPart-numbered : Numbered (symbolPart bs)
   unfolding symbolPart opened
   symbolPart-numbered =
@@ -137,12 +149,14 @@ module _ (bs : List ℕ) (S : Symbols) (s e : ℕ) where
   abbrev NumberedTrees : (List ℕ → List ℕ → ℕ → Reading Tree) → Type 0
   NumberedTrees tree = (vars done : List ℕ) (p : ℕ) → Numbered (tree vars done p)
 
+  -- the trees of a branch
   trees-numbered : (tree : List ℕ → ℕ → Reading Tree) → ((sorts : List ℕ) (p : ℕ) → Numbered (tree sorts p)) → (rest : List (List ℕ)) (p : ℕ)
       → Numbered (treesWith bs S s e tree rest p)
   unfolding treesWith
   trees-numbered tree reads [] p = read
   trees-numbered tree reads (sorts ∷ rest) p = next (reads sorts p) λ t q. next (trees-numbered tree reads rest q) λ ts u. read
 
+  -- a branch
   branch-numbered : (tree : List ℕ → List ℕ → ℕ → Reading Tree) → NumberedTrees tree → NumberedTrees (branchAt bs S s e tree)
   unfolding branchAt branchedAt
   branch-numbered tree reads vars done p =
@@ -150,6 +164,7 @@ module _ (bs : List ℕ) (S : Symbols) (s e : ℕ) where
       unless _ _ _ (omega arith) λ _. unless _ _ _ (omega arith) λ _. unless _ _ _ (omega arith) λ _. read) λ x q.
       next (trees-numbered _ (λ sorts r. reads (vars ++ sorts) (x ∷ done) r) _ q) λ ts t. read
 
+  -- a tree by its code
   treeCode-numbered : (tree : List ℕ → List ℕ → ℕ → Reading Tree) → NumberedTrees tree → (c : ℕ) → NumberedTrees (treeCodeAt bs S s e tree c)
   unfolding treeCodeAt
   treeCode-numbered tree reads zero vars done p = read
@@ -157,18 +172,21 @@ module _ (bs : List ℕ) (S : Symbols) (s e : ℕ) where
   treeCode-numbered tree reads (suc (suc zero)) vars done p = branch-numbered tree reads vars done p
   treeCode-numbered tree reads (suc (suc (suc c))) vars done p = refused-with _ _ (omega arith)
 
+  -- however deep
   tree-numbered : (depth : ℕ) → NumberedTrees (treeIn bs S s e depth)
   unfolding treeIn
   tree-numbered zero vars done p = refused-with _ _ (omega arith)
   tree-numbered (suc depth) vars done p =
       next (byte-numbered bs 0 e p) λ c _. treeCode-numbered (treeIn bs S s e depth) (tree-numbered depth) c vars done p
 
+-- an operation's item
 item-numbered : (bs : List ℕ) (S : Symbols) (e : ℕ) (x : Symbol) (p : ℕ) → Numbered (itemAt bs S e x p)
 unfolding itemAt
 item-numbered bs S e x p =
     next (length-numbered bs 0 e p) λ item q. next (tree-numbered bs S (x .sort) item (suc mostVariables) (x .arguments) [] q) λ t r.
     unless _ _ _ (omega arith) λ _. read
 
+-- the items of all operations
 operations-numbered : (bs : List ℕ) (S : Symbols) (e : ℕ) (rest : Symbols) (p : ℕ) → Numbered (treesOf bs S e rest p)
 unfolding treesOf
 operations-numbered bs S e [] p = read
@@ -176,6 +194,7 @@ operations-numbered bs S e (x ∷ rest) p =
     either (x .isOperation) (next (operations-numbered bs S e rest p) λ ts r. read)
     (next (item-numbered bs S e x p) λ t q. next (operations-numbered bs S e rest q) λ ts r. read)
 
+-- the tree part
 treePart-numbered : (bs : List ℕ) (S : Symbols) (p : ℕ) → Numbered (treePart bs S p)
 unfolding treePart
 treePart-numbered bs S p =
@@ -184,10 +203,12 @@ treePart-numbered bs S p =
 
 -- ---- books and questions
 
+-- a book
 book-numbered : (bs : List ℕ) → Numbered (readBook bs)
 unfolding readBook
 book-numbered bs = next (symbolPart-numbered bs) λ S p. next (treePart-numbered bs S p) λ ts q. read
 
+-- a question
 question-numbered : (S : Symbols) (bs : List ℕ) → Numbered (readQuestion S bs)
 unfolding readQuestion questionOpened askedAt
 question-numbered S bs =

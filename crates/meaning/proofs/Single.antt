@@ -13,20 +13,24 @@ use Rattle.machine.specs.Made.{Placed, make, makeRow, place, rewritten}
 use Rattle.rewriting.proofs.Heaps.{ChoiceBelow, ChoicesBelow}
 use Rattle.rewriting.proofs.Kept.{make-choices, makeRow-choices}
 
+-- 1 if P holds, else 0
 unfoldable pub one : {P : Type 0} → Dec P → ℕ
 one (yes p) = 1
 one (no p) = 0
 
+-- at most 1
 one-le : {P : Type 0} (d : Dec P) → one d ≤ 1
 unfolding one
 one-le (yes p) = le-refl 1
 one-le (no p) = omega arith
 
+-- 1 if it holds
 one-of : {P : Type 0} (d : Dec P) → P → one d ≡ 1
 unfolding one
 one-of (yes q) p = refl
 one-of (no q) p = absurd (q p)
 
+-- 0 if not
 none-of : {P : Type 0} (d : Dec P) → ¬ P → one d ≡ 0
 unfolding one
 none-of (yes q) p = absurd (p q)
@@ -52,23 +56,27 @@ Single h = (n m i l r a b : ℕ) → at h n ≡ choice i l r → at h m ≡ choi
 abbrev pub Counted : Heap → Type 0
 Counted h = (i : ℕ) → count i h ≤ 1
 
+-- in two heaps, one behind the other
 count-append : (i : ℕ) (a b : List Node) → count i (a ++ b) ≡ count i a + count i b
 unfolding count
 count-append i [] b = omega arith
 count-append i (x ∷ a) b = rw (count-append i a b) (omega arith)
 
+-- after one node has been replaced
 count-set : (i : ℕ) (h : List Node) (n : ℕ) (x : Node) → count i (set h n x) ≤ count i h + stands i x
 unfolding count
 count-set i [] n x = omega arith
 count-set i (y ∷ h) zero x = omega arith
 count-set i (y ∷ h) (suc n) x = omega (arith, count-set i h n x)
 
+-- as often as at one node, at least
 count-one : (i : ℕ) (h : List Node) (n : ℕ) → stands i (at h n) ≤ count i h
 unfolding count stands
 count-one i [] n = omega arith
 count-one i (y ∷ h) zero = omega arith
 count-one i (y ∷ h) (suc n) = omega (arith, count-one i h n)
 
+-- as often as at two nodes, at least
 count-two : (i : ℕ) (h : List Node) (n m : ℕ) → n ≢ m → stands i (at h n) + stands i (at h m) ≤ count i h
 unfolding count stands
 count-two i [] n m ne = omega arith
@@ -77,6 +85,7 @@ count-two i (y ∷ h) zero (suc m) ne = omega (arith, count-one i h m)
 count-two i (y ∷ h) (suc n) zero ne = omega (arith, count-one i h n)
 count-two i (y ∷ h) (suc n) (suc m) ne = omega (arith, count-two i h n m (λ e. ne (ap suc e)))
 
+-- if it is at none, not at all
 count-none : (i : ℕ) (h : List Node) → ((m a b : ℕ) → at h m ≢ choice i a b) → count i h ≡ 0
 unfolding count stands
 count-none i [] ne = refl
@@ -88,6 +97,7 @@ count-none i (x ∷ h) ne = let z = count-none i h (λ m a b e. ne (suc m) a b e
     go fail ne = refl
     go (forward m) ne = refl
 
+-- if no number stands in two nodes, counting says so
 pub counted : (h : Heap) → Single h → Counted h
 unfolding count stands one
 counted [] single i = omega arith
@@ -115,6 +125,7 @@ counted-other h n m {i} {j} s e e′ ne q =
     let y : stands i (at h m) ≡ 1 = rw e′ (one-of (ℕ-discrete i j) (sym q)) in
     omega (arith, count-two i h m n ne, s i)
 
+-- so if counting says so, no number stands in two nodes
 pub single : (h : Heap) → Counted h → Single h
 single h counts n m i l r a b e e′ = go (ℕ-discrete n m)
   where
@@ -128,10 +139,12 @@ pub record Within (k c : ℕ) (nodes : List Node) : Type 0 where
   pub low : (i : ℕ) → i < k → count i nodes ≡ 0
   pub high : (i : ℕ) → c ≤ i → count i nodes ≡ 0
 
+-- no nodes
 within-none : {k c : ℕ} → Within k c []
 unfolding count
 within-none = record { once = λ i. omega arith; low = λ i l. refl; high = λ i l. refl }
 
+-- one run of nodes after another
 within-join : {k c c′ : ℕ} {a b : List Node} → k ≤ c → c ≤ c′ → Within k c a → Within c c′ b → Within k c′ (a ++ b)
 within-join {k} {c} {c′} {a} {b} l l′ x y = record {
   once = λ i. go i (decLt i c);
@@ -164,6 +177,7 @@ within-choice {k} {c} {a} le w = record {
 mutual
   unfolding make stands
 
+  -- the nodes of an expression, and of a row of them
   pub make-within : (e : Expr) (env : List ℕ) (next k : ℕ) → Within k (make e env next k .choices) (make e env next k .nodes)
   make-within (Expr.var x) env next k = within-none
   make-within (Expr.apply f es) env next k = within-other _ (λ i. refl) (row-within es env (suc next) k)
@@ -181,7 +195,9 @@ mutual
       within-join (make-choices env e next k .0) (makeRow-choices env es (next + length (m .nodes)) (m .choices) .0)
       (make-within e env next k) (row-within es env (next + length (m .nodes)) (m .choices))
 
-place-within : (e : Expr) (env : List ℕ) (next k : ℕ) → Within k (place e env next k .choices) (place e env next k .top ∷ place e env next k .nodes)
+-- of an expression that takes a node's place
+place-within : (e : Expr) (env : List ℕ) (next k : ℕ)
+    → Within k (place e env next k .choices) (place e env next k .top ∷ place e env next k .nodes)
 unfolding place stands make
 place-within (Expr.var x) env next k = within-other _ (λ i. refl) within-none
 place-within (Expr.apply f es) env next k = within-other _ (λ i. refl) (row-within es env next k)
@@ -205,7 +221,8 @@ unused i k (x ∷ h) l below = let z = unused i k h l (λ m. below (suc m)) in l
     new (forward m) b = refl
 
 -- A rewrite and a choice taken leave it so that no choice number stands in two nodes.
-pub rewrite-counted : (h : Heap) (n k : ℕ) (e : Expr) (env : List ℕ) → ChoicesBelow k h → Counted h → Counted (rewritten h n (place e env (length h) k))
+pub rewrite-counted : (h : Heap) (n k : ℕ) (e : Expr) (env : List ℕ) → ChoicesBelow k h → Counted h
+    → Counted (rewritten h n (place e env (length h) k))
 unfolding rewritten count
 rewrite-counted h n k e env below counts i = go (decLt i k)
   where
@@ -219,6 +236,7 @@ rewrite-counted h n k e env below counts i = go (decLt i k)
     go (yes l) = rw count-append (omega (arith, count-set i h n (p .top), counts i, w .low i l))
     go (no l) = rw count-append (omega (arith, count-set i h n (p .top), unused i k h (omega arith) below, w .once i))
 
+-- a choice taken
 pub choose-counted : (h : Heap) (n t : ℕ) → Counted h → Counted (set h n (forward t))
 unfolding stands
 choose-counted h n t counts i = omega (arith, count-set i h n (forward t), counts i)

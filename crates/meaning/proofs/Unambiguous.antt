@@ -34,7 +34,9 @@ module _ (S : Symbols) where
         let (is, rest) = read-row vs ws (argumentsOf S c) ms ns f (rw same g) (cc) in
         (ap₂ con same is, rest)
 
-    read-row : (vs ws : Values) (ss ms ns : List ℕ) → FullRow S vs ss → FullRow S ws ss → flattens vs ++ ms ≡ flattens ws ++ ns → (vs ≡ ws) × (ms ≡ ns)
+    -- so can a row of them
+    read-row : (vs ws : Values) (ss ms ns : List ℕ) → FullRow S vs ss → FullRow S ws ss → flattens vs ++ ms ≡ flattens ws ++ ns
+        → (vs ≡ ws) × (ms ≡ ns)
     read-row noValues noValues ss ms ns f g e = (refl, e)
     read-row noValues (moreValues w ws) [] ms ns f g e = absurd g
     read-row noValues (moreValues w ws) (s ∷ ss) ms ns f g e = absurd f
@@ -45,6 +47,7 @@ module _ (S : Symbols) where
         let (are, last) = read-row vs ws ss ms ns fs gs rest in
         (ap₂ moreValues is are, last)
 
+  -- so the symbols say which value it is
   pub flatten-injective : (v w : Value) → Full S v → Full S w → flatten v ≡ flatten w → v ≡ w
   flatten-injective v w f g e = read-off v w [] [] f g (ap (λ l. l ++ []) e) .0
 
@@ -59,12 +62,14 @@ module _ (S : Symbols) where
       values-full (AreValues.more is are) = (value-full is, values-full are)
 
 module _ {r : Rules} where
+  -- steps keep heaps well-sorted
   steps-sorted : {s t : State} → Sorted r (s .heap) → InRange (s .heap) → Steps (bookOf r) s t → Sorted r (t .heap)
   steps-sorted sorted range Steps.done = sorted
   steps-sorted sorted range (Steps.then a rest) = steps-sorted (sorted-step sorted range a) (step-range a range) rest
 
   -- two values that can be reached and have the same symbols are one
-  pub reached-once : (s : State) (n m : ℕ) (v w : Value) → Sorted r (s .heap) → InRange (s .heap) → Reaches (bookOf r) s n v → Reaches (bookOf r) s m w
+  pub reached-once : (s : State) (n m : ℕ) (v w : Value) → Sorted r (s .heap) → InRange (s .heap) → Reaches (bookOf r) s n v
+      → Reaches (bookOf r) s m w
       → flatten v ≡ flatten w → v ≡ w
   unfolding Reaches
   reached-once s n m v w sorted range (t, steps, is) (t′, steps′, is′) =

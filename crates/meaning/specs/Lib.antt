@@ -1,4 +1,5 @@
 pub mod Plain
+pub mod Records
 pub mod Demand3
 pub mod Partial
 pub mod Readings

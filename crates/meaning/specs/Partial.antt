@@ -10,6 +10,7 @@ use Rattle.book.specs.Rules.{Book}
 use Rattle.rewriting.specs.Scoped.{Scoped}
 
 mutual
+  -- nothing, or a constructor and the partial values of its arguments
   pub data Part : Type 0 where
     bot : Part
     con : ℕ → Parts → Part
@@ -18,6 +19,7 @@ mutual
     noParts : Parts
     moreParts : Part → Parts → Parts
 
+-- a row as a list, and back
 unfoldable pub toList : Parts → List Part
 toList noParts = []
 toList (moreParts p ps) = p ∷ toList ps
@@ -51,12 +53,15 @@ module _ (B : Book) where
     pub data Gives : Expr → List Part → Part → Type 0 where
       nothing : {e : Expr} {ρ : List Part} → Gives e ρ bot
       var : {x : ℕ} {ρ : List Part} {p : Part} → p ⊑ getD ρ x bot → Gives (Expr.var x) ρ p
-      constructor : {c : ℕ} {es : Exprs} {ρ : List Part} {ps : Parts} → B .isConstructor c ≡ true → GivesRow es ρ ps → Gives (Expr.apply c es) ρ (con c ps)
+      constructor : {c : ℕ} {es : Exprs} {ρ : List Part} {ps : Parts} → B .isConstructor c ≡ true → GivesRow es ρ ps
+          → Gives (Expr.apply c es) ρ (con c ps)
       operation : {f : ℕ} {es : Exprs} {ρ : List Part} {ps : Parts} {e : Expr} {ρ′ : List Part} {p : Part}
           → B .isConstructor f ≡ false → GivesRow es ρ ps → Hits (B .tree f) (toList ps) e ρ′ → Gives e ρ′ p → Gives (Expr.apply f es) ρ p
       left : {a b : Expr} {ρ : List Part} {p : Part} → Gives a ρ p → Gives (Expr.choice a b) ρ p
       right : {a b : Expr} {ρ : List Part} {p : Part} → Gives b ρ p → Gives (Expr.choice a b) ρ p
 
+    -- the same of a row of expressions
     pub data GivesRow : Exprs → List Part → Parts → Type 0 where
       none : {ρ : List Part} → GivesRow Exprs.noExprs ρ noParts
-      more : {e : Expr} {es : Exprs} {ρ : List Part} {p : Part} {ps : Parts} → Gives e ρ p → GivesRow es ρ ps → GivesRow (Exprs.moreExprs e es) ρ (moreParts p ps)
+      more : {e : Expr} {es : Exprs} {ρ : List Part} {p : Part} {ps : Parts} → Gives e ρ p → GivesRow es ρ ps
+          → GivesRow (Exprs.moreExprs e es) ρ (moreParts p ps)

@@ -1,5 +1,5 @@
--- Rewriting word for word as document 01 has it under "Values a question can reach". Unlike crate rewriting's, a path through a tree says nothing of
--- which variables are there; for an admitted book that is the same (proofs/PlainReaches.antt).
+-- Rewriting word for word as document 01 has it under "Values a question can reach". Unlike crate rewriting's, a path through a
+-- tree says nothing of which variables are there; for an admitted book that is the same (proofs/PlainReaches.antt).
 use mathlib.Core.Bool.{true, false}
 use mathlib.Core.Path.{_≡_}
 use mathlib.Core.List.{List, _++_}
@@ -12,8 +12,8 @@ use Rattle.nodes.specs.Nodes.{apply, choice, forward, Heap, at}
 use Rattle.machine.specs.Made.{place, rewritten}
 use Rattle.rewriting.specs.Rewriting.{State, Leads, Value, IsValue}
 
--- the path of an operation through its tree, with the variables' arrows, ends at a rule with expression e and arrows env: at a branch the variable's node,
--- forwards followed, is a constructor, which picks a tree
+-- the path of an operation through its tree, with the variables' arrows, ends at a rule with expression e and arrows env: at a
+-- branch the variable's node, forwards followed, is a constructor, which picks a tree
 pub data EndsAt (B : Book) (h : Heap) : Tree → List ℕ → Expr → List ℕ → Type 0 where
   rule : {e : Expr} {env : List ℕ} → EndsAt B h (Tree.rule e) env e env
   branch : {x : ℕ} {ts : Trees} {env : List ℕ} {m c : ℕ} {xs : List ℕ} {e : Expr} {env′ : List ℕ}
@@ -31,6 +31,7 @@ pub data PlainStep (B : Book) : State → State → Type 0 where
   right : {h : Heap} {k i l r : ℕ} (n : ℕ) → at h n ≡ choice i l r
       → PlainStep B (record { heap = h; choices = k }) (record { heap = set h n (forward r); choices = k })
 
+-- any number of steps
 pub data PlainSteps (B : Book) : State → State → Type 0 where
   done : {s : State} → PlainSteps B s s
   then : {s t u : State} → PlainStep B s t → PlainSteps B t u → PlainSteps B s u

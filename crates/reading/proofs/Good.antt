@@ -23,6 +23,21 @@ good-got {P} {a} {p} (good {a = b} {p = q} is) e =
     rw (f, g) at is
 good-got refused e = absurd (let z : _≡_ {A = ℕ} 0 1 = cc in omega arith)
 
+-- what holds of whatever may have been read
+pub whenever : {A : Type 0} {P : A → ℕ → Type 0} (r : Reading A) → ((a : A) (q : ℕ) → r ≡ got a q → P a q) → Good P r
+whenever (got a q) f = good (f a q refl)
+whenever (refusal c q) f = refused
+
+-- what follows from what holds of it
+pub each : {A : Type 0} {P Q : A → ℕ → Type 0} {r : Reading A} → ((a : A) (q : ℕ) → P a q → Q a q) → Good P r → Good Q r
+each f (good {a} {p} is) = good (f a p is)
+each f refused = refused
+
+-- two things that hold of it
+pub both : {A : Type 0} {P Q : A → ℕ → Type 0} {r : Reading A} → Good P r → Good Q r → Good (λ a q. P a q × Q a q) r
+both (good is) other = good (is, good-got other refl)
+both refused other = refused
+
 -- reading goes on with what was found
 pub then-good : {A B : Type 0} {P : A → ℕ → Type 0} {Q : B → ℕ → Type 0} {r : Reading A} {more : A → ℕ → Reading B}
     → Good P r → ((a : A) (q : ℕ) → P a q → Good Q (more a q)) → Good Q (_then_ r more)

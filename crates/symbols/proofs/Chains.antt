@@ -7,8 +7,8 @@ use Prim.Native.Nat.{ℕ, zero, suc, _+_, _-_, _≤_, _<_}
 use native.Mathlib.Nat.{not-suc-le-zero, add-zero, zero-add}
 use native.Mathlib.Decide.{ℕ-discrete}
 use native.Mathlib.Omega.{arith}
-use borrow.Author.Tests.{eq-eqb, ne-eqb}
-use lib.ListN.{length, getD, set, take, drop, replicate, length-replicate, length-set, getD-replicate, replicate-append-replicate}
+use borrow.Author.Tests.{eqb-true, eq-eqb, ne-eqb}
+use lib.ListN.{length, getD, set, take, drop, replicate, List·getD-append, length-replicate, length-set, getD-replicate, replicate-append-replicate}
 use lib.Seq.{drop-cons, drop-length, getD-set-same, getD-set-other, ext-getD}
 use Rattle.limits.specs.Sizes.{mostSymbols}
 use Rattle.reading.specs.Reading.{Reading, got, refusal}
@@ -22,22 +22,21 @@ use Rattle.symbols.proofs.PartWays.{PartKept, part-refused, part-read}
 
 -- what the chain stops at, counted from the front of `rest`
 pub record Stop (s : ℕ) (rest : Symbols) (k : ℕ) : Type 0 where
-  pub within : k ≤ length rest
   pub skips : constructorsOf s (drop k rest) ≡ constructorsOf s rest
   pub is : k < length rest → isConstructorOf s (symbolOf rest k) ≡ true
 
 -- the first constructor of the sort, or the end, is where the chain stops
 pub stops : (s : ℕ) (rest : Symbols) (f : ℕ) → (k : ℕ) × (firstFrom s rest f ≡ f + k) × Stop s rest k
 unfolding firstFrom constructorsOf
-stops s [] f = (0, omega arith, record { within = omega arith; skips = refl; is = λ h. absurd (not-suc-le-zero h) })
+stops s [] f = (0, omega arith, record { skips = refl; is = λ h. absurd (not-suc-le-zero h) })
 stops s (x ∷ rest) f = by (isConstructorOf s x) refl (stops s rest (suc f))
   where
     -- whether the first symbol is one or not
     by : (b : Bool) → isConstructorOf s x ≡ b → (k : ℕ) × (firstFrom s rest (suc f) ≡ suc f + k) × Stop s rest k
         → (k : ℕ) × (firstFrom s (x ∷ rest) f ≡ f + k) × Stop s (x ∷ rest) k
-    by true e r = (0, rw (e, firstFrom) (omega arith), record { within = omega arith; skips = refl; is = λ h. e })
+    by true e r = (0, rw (e, firstFrom) (omega arith), record { skips = refl; is = λ h. e })
     by false e (k, at-k, stop) =
-        (suc k, rw (e, firstFrom) (at-k ∙ omega arith), record { within = omega (arith, stop .within); skips = stop .skips ∙ sym (rw (e, constructorsOf)); is = λ h. stop .is (omega arith) })
+        (suc k, rw (e, firstFrom) (at-k ∙ omega arith), record { skips = stop .skips ∙ sym (rw (e, constructorsOf)); is = λ h. stop .is (omega arith) })
 
 -- ---- the rows of numbers
 
@@ -62,6 +61,40 @@ module _ (symbols : Symbols) where
   first-there (suc n) s (suc i) small =
       let more : s + suc i ≡ suc s + i = omega arith in
       rw more (first-there n (suc s) i (omega arith))
+
+-- what stands at a symbol's number is its own next one
+next-there : (symbols : Symbols) (f i : ℕ) → i < length symbols → getD (nextsFrom symbols f) i 0 ≡ firstFrom (symbolOf symbols i .sort) (drop (suc i) symbols) (suc (f + i))
+unfolding nextsFrom
+next-there [] f i small = absurd (omega arith)
+next-there (x ∷ rest) f zero small = rw add-zero
+next-there (x ∷ rest) f (suc i) small =
+    let more : f + suc i ≡ suc f + i = omega arith in
+    rw more (next-there rest (suc f) i (omega arith))
+
+-- ---- reading the arrays
+
+-- a constructor of a sort has it as its own
+own-sort : (s : ℕ) (x : Symbol) → isConstructorOf s x ≡ true → x .sort ≡ s
+unfolding isConstructorOf
+own-sort s x = by (x .isOperation) refl
+  where
+    -- an operation is no constructor
+    by : (b : Bool) → x .isOperation ≡ b → isConstructorOf s x ≡ true → x .sort ≡ s
+    by true e is = absurd (let z : _≡_ true false = sym is ∙ rw (e, isConstructorOf) in let y : _≡_ {A = ℕ} 0 1 = cc in omega arith)
+    by false e is = eqb-true (x .sort) s (rw (e, isConstructorOf) at is)
+
+module _ (symbols : Symbols) where
+  -- the array of first ones has each sort's
+  pub first-in-array : {first : List ℕ} → first ≡ firstsFrom symbols 256 0 → (s : ℕ) → s < 256 → getD first s 0 ≡ firstFrom s symbols 0
+  first-in-array firsts s small = rw firsts (first-there symbols 256 0 s small ∙ rw zero-add)
+
+  -- the array of next ones has each constructor's
+  pub next-in-array : {next : List ℕ} → next ≡ inArray (nextsFrom symbols 0) → (s f : ℕ) → f < length symbols → isConstructorOf s (symbolOf symbols f) ≡ true
+      → getD next f 0 ≡ firstFrom s (drop (suc f) symbols) (suc f)
+  unfolding inArray
+  next-in-array nexts s f here is =
+      let long = length-nexts symbols 0 in
+      rw (nexts, List·getD-append (nextsFrom symbols 0) _ 0 f (omega arith), next-there symbols 0 f here, own-sort s (symbolOf symbols f) is, zero-add)
 
 -- ---- filling the arrays
 
@@ -98,7 +131,7 @@ module _ (symbols : Symbols) where
   chained-all {next} {first} r = (
     rw (r .so-far, length-nexts),
     ext-getD 0 first (firstsFrom symbols 256 0) (r .sorts ∙ sym (length-firsts symbols 256 0)) λ s small.
-        r .known s (omega (arith, r .sorts)) ∙ sym (first-there symbols 256 0 s (omega (arith, r .sorts)) ∙ rw zero-add),
+        r .known s (omega (arith, r .sorts)) ∙ sym (first-in-array symbols refl s (omega (arith, r .sorts))),
   )
 
   module _ {f from : ℕ} (before : from ≡ suc f) (here : f < length symbols) {next first : List ℕ} (r : Chained symbols from next first) where
