@@ -11,7 +11,7 @@ use Rattle.reading.specs.Reading.{Reading, got, refusal, _then_, refuse_at_if_e
 use Rattle.reading.specs.Bytes.{lengthAt}
 use Rattle.reading.specs.Answer.{keeping, nothing}
 use Rattle.reading.proofs.Good.{good-got, length-good}
-use Rattle.reading.proofs.Keeping.{kept-got, kept-refusal, then-got, then-refusal}
+use Rattle.reading.proofs.Keeping.{kept-got, kept-refusal, then-got, then-refusal, passed, failed-test}
 use Rattle.symbols.specs.Symbols.{Symbol, Symbols}
 use Rattle.book.specs.Trees.{Tree, Trees, exempt, noTrees, moreTrees}
 use Rattle.book.specs.TreeAt.{treeIn, itemAt, treesOf, treePart}
@@ -19,15 +19,6 @@ use Rattle.book.specs.Index.{treeBytes, markTree, rootsFrom, endsFrom}
 use Rattle.book.specs.Reader.{Marked, Indexed}
 use Rattle.book.proofs.TreeWays.{Told, told-refused, told-read}
 use Rattle.book.proofs.TreeExtents.{item-extent}
-
--- what was read is given back behind a test that it passes
-passes : {A : Type 0} (c p : ℕ) {t : Bool} {r : Reading A} → t ≡ false → refuse_at_if_else_ c p t (λ _. r) ≡ r
-unfolding refuse_at_if_else_
-passes c p e = rw (e, refuse_at_if_else_)
-
-fails : {A : Type 0} (c p : ℕ) {t : Bool} (r : Reading A) → t ≡ true → refuse_at_if_else_ c p t (λ _. r) ≡ refusal c p
-unfolding refuse_at_if_else_
-fails c p r e = rw (e, refuse_at_if_else_)
 
 -- a tree that was read is marked
 marked-tree : (p : ℕ) (was is : List ℕ) {r : Reading Tree} {t : Tree} {q : ℕ} → r ≡ got t q → Marked p r was is → is ≡ markTree p t was
@@ -54,14 +45,14 @@ module _ (bs : List ℕ) (S : Symbols) (e : ℕ) (x : Symbol) (p : ℕ) (was is 
       unfolding itemAt
       item-left-over l =
           let t = kept-got nothing _ (told .answer) in
-          told-refused (p + 2) was is (then-got _ (sym opened) ∙ then-got _ (t .1) ∙ fails _ _ _ (lt-ltb r end l))
+          told-refused (p + 2) was is (then-got _ (sym opened) ∙ then-got _ (t .1) ∙ failed-test _ _ _ (lt-ltb r end l))
 
       pub item-read : end ≤ r → Told (p + 2) (got v r) item was is
       unfolding itemAt
       item-read l =
           let t = kept-got nothing _ (told .answer) in
           let behind = good-got (length-good bs 0 e p) (sym opened) in
-          let is-read = then-got _ (sym opened) ∙ then-got _ (t .1) ∙ passes _ _ (le-ltb r end l) in
+          let is-read = then-got _ (sym opened) ∙ then-got _ (t .1) ∙ passed _ _ (le-ltb r end l) in
           let marks = marked-tree q was is (t .1) (told .marks) ∙ ap (λ (k : ℕ). markTree k (t .0) was) (behind .0) in
           rw (t .2) (told-read (p + 2) was is (t .0) r is-read marks)
 
@@ -185,18 +176,18 @@ module _ (bs : List ℕ) (S : Symbols) (p : ℕ) (info′ info ends′ ends : Li
     module _ {v r : ℕ} (listed : Listed bs S e q 0 S (got v r) info′ info ends′ ends) where
       pub part-left-over : r < e → PartRead (refusal 1 r)
       unfolding treePart
-      part-left-over l = refused-part (then-got _ (sym opened) ∙ then-got _ (kept-got nothing _ (listed .answer) .1) ∙ fails _ _ _ (lt-ltb r e l))
+      part-left-over l = refused-part (then-got _ (sym opened) ∙ then-got _ (kept-got nothing _ (listed .answer) .1) ∙ failed-test _ _ _ (lt-ltb r e l))
 
       pub book-left-over : e ≤ r → r < length bs → PartRead (refusal 1 r)
       unfolding treePart
       book-left-over h l = refused-part
-          (then-got _ (sym opened) ∙ then-got _ (kept-got nothing _ (listed .answer) .1) ∙ passes _ _ (le-ltb r e h) ∙ fails _ _ _ (lt-ltb r (length bs) l))
+          (then-got _ (sym opened) ∙ then-got _ (kept-got nothing _ (listed .answer) .1) ∙ passed _ _ (le-ltb r e h) ∙ failed-test _ _ _ (lt-ltb r (length bs) l))
 
       pub part-read : e ≤ r → length bs ≤ r → PartRead (got 0 r)
       unfolding treePart keeping Indexed
       part-read h l =
           let ts = kept-got nothing _ (listed .answer) in
-          let whole : treePart bs S p ≡ got (ts .0) r = then-got _ (sym opened) ∙ then-got _ (ts .1) ∙ passes _ _ (le-ltb r e h) ∙ passes _ _ (le-ltb r (length bs) l) in
+          let whole : treePart bs S p ≡ got (ts .0) r = then-got _ (sym opened) ∙ then-got _ (ts .1) ∙ passed _ _ (le-ltb r e h) ∙ passed _ _ (le-ltb r (length bs) l) in
           let there = good-got (length-good bs 0 (length bs) p) (sym opened) .0 in
           let index = indexed-read q 0 S info′ info ends′ ends (ts .1) (listed .index) in
           record {

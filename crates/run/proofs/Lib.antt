@@ -24,3 +24,6 @@ pub mod SortedReady
 pub mod Applies
 pub mod Finishing
 pub mod Walking
+pub mod Splitting
+pub mod Answering
+pub mod Rewriting

@@ -9,6 +9,7 @@ use borrow.Author.Tests.{lt-ltb, le-ltb, lt-leb, le-leb, eq-eqb, ne-eqb}
 use lib.ListN.{length, set, getD, take, drop, replicate, length-replicate}
 use lib.Seq.{sets, sets-eq, length-sets, take-at}
 use Rattle.limits.specs.Sizes.{mostBookBytes, mostSymbols, mostArguments, lastSort}
+use Rattle.limits.proofs.Copies.{over-zeros}
 use Rattle.reading.specs.Reading.{Reading, got, refusal, _then_, refuse_at_if_else_}
 use Rattle.reading.specs.Bytes.{byteAt, lengthAt}
 use Rattle.reading.specs.Answer.{keeping, nothing}
@@ -180,16 +181,6 @@ module _ (bs : List ℕ) where
           opened-some h = simp (opened, refuse_at_if_else_, _then_, known, ← version, ← part)
 
 -- ---- the whole part
-
--- zeros without the first k
-drop-zeros : (k n : ℕ) → drop k (replicate {A = ℕ} n 0) ≡ replicate (n - k) 0
-drop-zeros zero n = simp sub-zero
-drop-zeros (suc k) zero = sym (rw zero-sub)
-drop-zeros (suc k) (suc n) = rw suc-sub-suc (drop-zeros k n)
-
--- a row that was stored over n zeros, from the first on, stands in front of the zeros that are left
-over-zeros : (row : List ℕ) (n : ℕ) → length row ≤ n → sets (replicate n 0) 0 row ≡ row ++ replicate (n - length row) 0
-over-zeros row n h = sets-eq row (replicate n 0) 0 (simp (length-replicate, zero-add) h) ∙ simp (zero-add, drop-zeros)
 
 -- what the code has to give for the part of a book
 abbrev pub PartAnswered : List ℕ → Reading ℕ → List ℕ → List ℕ → Type 0

@@ -47,13 +47,3 @@ pub fn arity_of(book: &[u8], at: &[u16], f: usize) -> usize
 {
     arguments_of(book, at, f).len()
 }
-
-// Whether f is a constructor of the sort.
-pub fn is_constructor_of(book: &[u8], at: &[u16], f: usize, sort: u8) -> bool
-    ensures { λ r. ⌜ r ≡ isConstructorOf sort (symbolIn (now (book .entry)) (getD (now (at .entry)) f 0)) ⌝ }
-{
-    if is_operation(book, at, f) {
-        return false;
-    }
-    sort_of(book, at, f) == sort
-}
