@@ -12,7 +12,7 @@ use Rattle.reading.specs.Answer.{keeping, nothing}
 use Rattle.reading.proofs.Good.{Good, good, good-got, then-good, whenever, each}
 use Rattle.reading.proofs.Keeping.{kept-got, kept-refusal, then-got, then-refusal}
 use Rattle.symbols.specs.Symbols.{Symbols}
-use Rattle.symbols.specs.SymbolPart.{symbolsAt, opened, symbolPart}
+use Rattle.symbols.specs.SymbolPart.{symbolsAt, symbolPart}
 use Rattle.symbols.specs.Table.{symbolsIn, placesFrom, ranksFrom, inArray, placesAfter, ranksAfter, nextsAfter, firstsAfter}
 use Rattle.symbols.proofs.Parts.{symbol-good, symbols-none, symbols-next, opened-good, part-got}
 use Rattle.book.specs.Trees.{Trees}

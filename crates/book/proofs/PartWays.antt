@@ -3,17 +3,15 @@ use mathlib.Core.Bool.{Bool, true, false}
 use mathlib.Core.List.{List, [], _∷_}
 use mathlib.Core.Path.{_≡_, refl, sym, ap, _∙_}
 use Prim.Native.Nat.{ℕ, suc, _+_, _≤_, _<_}
-use native.Mathlib.Omega.{arith}
 use borrow.Author.Tests.{lt-ltb, le-ltb}
-use lib.Dec.{ltb}
-use lib.ListN.{length, set, drop}
-use Rattle.reading.specs.Reading.{Reading, got, refusal, _then_, refuse_at_if_else_}
+use lib.ListN.{length, set}
+use Rattle.reading.specs.Reading.{Reading, got, refusal, _then_}
 use Rattle.reading.specs.Bytes.{lengthAt}
 use Rattle.reading.specs.Answer.{keeping, nothing}
 use Rattle.reading.proofs.Good.{good-got, length-good}
 use Rattle.reading.proofs.Keeping.{kept-got, kept-refusal, then-got, then-refusal, passed, failed-test}
 use Rattle.symbols.specs.Symbols.{Symbol, Symbols}
-use Rattle.book.specs.Trees.{Tree, Trees, exempt, noTrees, moreTrees}
+use Rattle.book.specs.Trees.{Tree, Trees, exempt, moreTrees}
 use Rattle.book.specs.TreeAt.{treeIn, itemAt, treesOf, treePart}
 use Rattle.book.specs.Index.{treeBytes, markTree, rootsFrom, endsFrom}
 use Rattle.book.specs.Reader.{Marked, Indexed}

@@ -3,10 +3,8 @@ use mathlib.Core.List.{List, [], _∷_}
 use mathlib.Core.Path.{_≡_, refl}
 use Prim.Native.Nat.{ℕ, zero, suc, _+_, _≤_, _<_}
 use native.Mathlib.Omega.{arith}
-use lib.ListN.{length, getD}
-use Rattle.reading.specs.Reading.{Reading, got}
-use Rattle.reading.specs.Bytes.{byteAt, numberAt}
-use Rattle.reading.proofs.Good.{Good, good, refused, good-got, then-good, unless, byte-good, number-good}
+use Rattle.reading.specs.Reading.{Reading}
+use Rattle.reading.proofs.Good.{Good, good, refused, then-good, unless, byte-good, number-good}
 use Rattle.symbols.specs.Symbols.{Symbols, symbolOf}
 use Rattle.expressions.specs.Expressions.{Expr, Exprs, exprBytes, rowBytes}
 use Rattle.expressions.specs.ExpressionAt.{Left, leaving, ExprReader, nodeAt, variableAt, rowWith, choiceAt, appliedAt, applyAt, codeAt, exprAt, wholeAt}

@@ -1,18 +1,18 @@
 -- An expression is read the same in the part that ends where its item does.
 use mathlib.Core.Bool.{Bool, true, false}
-use mathlib.Core.List.{List, [], _∷_}
-use mathlib.Core.Path.{_≡_, refl, ap, ap₂, fun-ext, _∙_}
+use mathlib.Core.List.{List}
+use mathlib.Core.Path.{_≡_, refl, ap, ap₂, fun-ext}
 use Prim.Native.Nat.{ℕ, zero, suc, _+_, _*_}
 use native.Mathlib.Omega.{arith}
 use borrow.Author.Tests.{leb-false, ltb-false}
 use lib.Dec.{leb, ltb}
-use lib.ListN.{length, getD, take}
+use lib.ListN.{take}
 use lib.Seq.{getD-take}
 use Rattle.reading.specs.Reading.{Reading, got, _then_, refuse_at_if_else_}
-use Rattle.reading.specs.Bytes.{bigEndian, byteAt, numberAt}
+use Rattle.reading.specs.Bytes.{byteAt, numberAt}
 use Rattle.symbols.specs.Symbols.{Symbols}
 use Rattle.expressions.specs.Expressions.{Expr}
-use Rattle.expressions.specs.ExpressionAt.{Left, ExprReader, nodeAt, variableAt, appliedAt, applyAt, codeAt, exprAt, wholeAt}
+use Rattle.expressions.specs.ExpressionAt.{Left, ExprReader, variableAt, appliedAt, applyAt, codeAt, exprAt, wholeAt}
 
 -- a test that fails both times, or what is read behind it is the same
 same-unless : {A : Type 0} (c p : ℕ) (t : Bool) (a b : Reading A) → (t ≡ false → a ≡ b)

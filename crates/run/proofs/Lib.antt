@@ -27,3 +27,5 @@ pub mod Walking
 pub mod Splitting
 pub mod Answering
 pub mod Rewriting
+pub mod Stepping
+pub mod OneTurn

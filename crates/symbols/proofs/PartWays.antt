@@ -1,13 +1,13 @@
 -- Reading the symbol part, one lemma for each way through the code.
-use mathlib.Core.List.{List, [], _∷_, _++_}
+use mathlib.Core.List.{List, [], _∷_}
 use mathlib.Core.Path.{_≡_, refl, sym, ap, subst, _∙_}
 use Prim.Native.Nat.{ℕ, zero, suc, _+_, _-_, _<_, _≤_}
-use native.Mathlib.Nat.{add-zero, add-suc, suc-add, zero-add, sub-zero, zero-sub, suc-sub-suc}
+use native.Mathlib.Nat.{add-zero, add-suc, suc-add, zero-add}
 use native.Mathlib.Numerals.{add-one, sub-one}
 use native.Mathlib.Omega.{arith}
 use borrow.Author.Tests.{lt-ltb, le-ltb, lt-leb, le-leb, eq-eqb, ne-eqb}
-use lib.ListN.{length, set, getD, take, drop, replicate, length-replicate}
-use lib.Seq.{sets, sets-eq, length-sets, take-at}
+use lib.ListN.{length, set, getD, take, replicate, length-replicate}
+use lib.Seq.{sets, length-sets, take-at}
 use Rattle.limits.specs.Sizes.{mostBookBytes, mostSymbols, mostArguments, lastSort}
 use Rattle.limits.proofs.Copies.{over-zeros}
 use Rattle.reading.specs.Reading.{Reading, got, refusal, _then_, refuse_at_if_else_}

@@ -1,6 +1,5 @@
 -- `show_all` meets its contract: each row lies behind the one before it, so the rows end.
 use Prim.Native.Nat.{_-_, _≤_}
-use native.Mathlib.Omega.{arith}
 use lib.ListN.{length}
 use borrow.Author.Needs.{needs}
 use Rattle.admissions.proofs.show_all.Statement.{statement}

@@ -1,5 +1,5 @@
 -- `verdict` meets its contract: an admitted book has no more symbols than there are places for.
-use mathlib.Core.Path.{_≡_, sym, ap, _∙_}
+use mathlib.Core.Path.{sym, ap, _∙_}
 use native.Mathlib.Omega.{arith}
 use borrow.Author.Needs.{needs}
 use Rattle.reading.specs.Answer.{readingOf}
