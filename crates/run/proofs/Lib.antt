@@ -29,3 +29,7 @@ pub mod Answering
 pub mod Rewriting
 pub mod Stepping
 pub mod OneTurn
+pub mod Rings
+pub mod TurnKeeps
+pub mod BetweenTurns
+pub mod Loading
