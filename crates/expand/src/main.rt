@@ -1,10 +1,11 @@
 // Reads a book, a question and a fuel from standard input, runs them once, and prints the answers and the result.
 ghost use Prim.Native.Nat.{_<_, _≤_};
+use evaluator::run_owned;
+use limits::Entry;
 use limits::Limits;
 use reading::number;
 use reading::part_of;
 use run::Outcome;
-use run::run;
 
 // The longest input: a book and a question of 65,535 bytes each, behind their lengths, and the fuel.
 const LONGEST: usize = 2 + 65535 + 2 + 65535 + 4;
@@ -33,16 +34,11 @@ fn expand(input: &[u8]) {
     let fuel = (number(input, f) * 65536 + number(input, f + 2)) as u32;
     let mut nodes = [0u16; Limits::NODES * Limits::NODE];
     let mut bytes = [0u8; ANSWER_BYTES];
-    let r = run(
-        book,
-        question,
-        &mut nodes,
-        Limits::ENTRIES,
-        &mut bytes,
-        fuel,
-    );
-    show_answers(&bytes, r.answers);
-    show_result(r);
+    let list = [Entry::vacant(); Limits::ENTRIES];
+    let r = run_owned(book, question, &mut nodes, list, &mut bytes, fuel);
+    let outcome = r.outcome;
+    show_answers(&bytes, outcome.answers);
+    show_result(outcome);
 }
 
 // The records stand one behind the other, the first behind the version byte. Each that is counted begins inside the room.

@@ -19,7 +19,7 @@ use symbols::table::arguments_of;
 use symbols::table::sort_of;
 
 // The part of one of two lent slices that holds an expression, by who asked.
-pub fn part<'a>(book: &'a [u8], question: &'a [u8], who: Asker, from: usize, to: usize) -> &'a [u8]
+fn part<'a>(book: &'a [u8], question: &'a [u8], who: Asker, from: usize, to: usize) -> &'a [u8]
     ensures { λ r. ⌜ now r ≡ partOf (whose who (now (book .entry)) (now (question .entry))) from to ⌝ }
 {
     match who {

@@ -2,7 +2,7 @@
 ghost use mathlib.Core.Path.{_≡_};
 ghost use Prim.Native.Nat.{_-_, _<_, _≤_};
 ghost use lib.ListN.{getD};
-ghost use Rattle.reading.specs.Bytes.{bigEndian, byteAt, numberAt, lengthAt};
+ghost use Rattle.reading.specs.Bytes.{bigEndian, byteAt, lengthAt};
 ghost use Rattle.reading.specs.Answer.{readingOf, baseOf, partOf};
 
 // What reading finds: what was read and the place behind it, or a refusal by number and place.
@@ -88,23 +88,6 @@ pub fn byte_at(s: &[u8], who: Asker, e: usize, p: usize) -> Reading
         Reading::Got {
             value: wide_byte(s, p),
             next: p + 1,
-        }
-    }
-}
-
-// A two-byte number of a part or item that ends at e.
-pub fn number_at(s: &[u8], who: Asker, e: usize, p: usize) -> Reading
-    ensures { λ r. ⌜ readingOf r ≡ numberAt (now (s .entry)) (baseOf who) e p ⌝ }
-{
-    if between(p, e) < 2 {
-        Reading::Refusal {
-            number: base_of(who) + 1,
-            place: e,
-        }
-    } else {
-        Reading::Got {
-            value: number(s, p),
-            next: p + 2,
         }
     }
 }

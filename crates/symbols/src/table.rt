@@ -11,7 +11,7 @@ use reading::part_of;
 use reading::wide_byte;
 
 // The place of symbol f.
-pub fn place_of(at: &[u16], f: usize) -> usize
+fn place_of(at: &[u16], f: usize) -> usize
     ensures { λ r. ⌜ (r ≡ getD (now (at .entry)) f 0) × (r < 65536) ⌝ }
 {
     if f < at.len() { at[f] as usize } else { 0 }

@@ -1,1 +1,0 @@
-// The marked cases of document 01, proved by computation. Theorems only.

@@ -1,0 +1,250 @@
+// Reads a table of runs from standard input and makes each over memory that is longer than what is lent of it. For each it prints the
+// label, the seven numbers of the result, and a checksum of all the node numbers, list places and answer bytes, lent or not.
+// tools/edge_cases.py makes the table and says what document 01 has for each row.
+ghost use Prim.Native.Nat.{_+_, _<_, _≤_};
+ghost use lib.ListN.{length};
+use evaluator::run_owned;
+use limits::Decisions;
+use limits::Entry;
+use limits::Limits;
+use limits::Side;
+use reading::number;
+use reading::part_of;
+use run::Outcome;
+use run::run_by_value;
+
+// How long each memory is.
+const NUMBERS: usize = 32010;
+
+const PLACES: usize = 100;
+
+const BYTES: usize = 16400;
+
+fn main() {
+    let mut input = [0u8; 65536];
+    let n = io::read_full(0, &mut input);
+    show_all(&input[..n]);
+}
+
+fn show_all(input: &[u8])
+    requires { ⌜ length (now input) ≤ 65536 ⌝ }
+{
+    let mut p: usize = 0;
+    while p < input.len() {
+        p = show_row(input, p);
+    }
+}
+
+// The place behind a field: a two-byte length, then what it counts.
+fn behind(input: &[u8], p: usize) -> usize
+    requires { ⌜ p ≤ 1000000 ⌝ }
+    ensures { λ r. ⌜ (p < r) × (r ≤ p + 65537) ⌝ }
+{
+    p + 2 + number(input, p)
+}
+
+// One row: its label, its sizes and fuel (ten bytes), its book and its question. The answer is the place behind it.
+fn show_row(input: &[u8], p: usize) -> usize
+    requires { ⌜ p ≤ 65536 ⌝ }
+    ensures { λ r. ⌜ p < r ⌝ }
+{
+    let s = behind(input, p);
+    let q = behind(input, s + 10);
+    let end = behind(input, q);
+    io::write_all(1, part_of(input, p + 2, s));
+    show_run(
+        part_of(input, s, s + 10),
+        part_of(input, s + 12, q),
+        part_of(input, q + 2, end),
+    );
+    end
+}
+
+// The run of a row over the first so many numbers, places and bytes of memory that holds marks. The ten bytes say how many, and the fuel.
+fn show_run<'a>(given: &'a [u8], book: &'a [u8], question: &'a [u8]) {
+    let numbers = at_most(number(given, 0), NUMBERS);
+    let places = at_most(number(given, 2), PLACES);
+    let room = at_most(number(given, 4), BYTES);
+    let fuel = (number(given, 6) * 65536 + number(given, 8)) as u32;
+    io::write_all(1, b":");
+    if places == Limits::ENTRIES {
+        show_owned(book, question, numbers, room, fuel);
+    } else {
+        show_by_value(book, question, numbers, places, room, fuel);
+    }
+}
+
+fn at_most(n: usize, most: usize) -> usize
+    ensures { λ r. ⌜ r ≤ most ⌝ }
+{
+    if most < n { most } else { n }
+}
+
+// With 64 places: the first 64 of the list go in by value, and come out.
+fn show_owned<'a>(book: &'a [u8], question: &'a [u8], numbers: usize, room: usize, fuel: u32)
+    requires { ⌜ (numbers ≤ 32010) × (room ≤ 16400) ⌝ }
+{
+    let mut nodes = [48879u16; NUMBERS];
+    let mut bytes = [170u8; BYTES];
+    let list = [marked(); Limits::ENTRIES];
+    let r = run_owned(
+        book,
+        question,
+        &mut nodes[0..numbers],
+        list,
+        &mut bytes[0..room],
+        fuel,
+    );
+    let outcome = r.outcome;
+    let entries = r.list;
+    show_result(outcome);
+    show_sums(&nodes, laid(entries, Limits::ENTRIES), &bytes);
+}
+
+// With another number of places: what is to stand in the first of them is handed out.
+fn show_by_value<'a>(
+    book: &'a [u8],
+    question: &'a [u8],
+    numbers: usize,
+    places: usize,
+    room: usize,
+    fuel: u32,
+)
+    requires { ⌜ (numbers ≤ 32010) × (room ≤ 16400) ⌝ }
+{
+    let mut nodes = [48879u16; NUMBERS];
+    let mut bytes = [170u8; BYTES];
+    let r = run_by_value(
+        book,
+        question,
+        &mut nodes[0..numbers],
+        places,
+        &mut bytes[0..room],
+        fuel,
+    );
+    let outcome = r.outcome;
+    let entries = r.list;
+    show_result(outcome);
+    show_sums(&nodes, laid(entries, r.lay), &bytes);
+}
+
+// What stands in a list place before a run.
+fn marked() -> Entry {
+    Entry::of(7, Limits::all_open())
+}
+
+// The whole list: the first so many of the entries, and behind them places as they were.
+fn laid(entries: [Entry; Limits::ENTRIES], count: usize) -> [Entry; PLACES]
+    requires { ⌜ count ≤ 64 ⌝ }
+{
+    let mut list = [marked(); PLACES];
+    let mut i: usize = 0;
+    while i < count {
+        let e = entries[i];
+        list[i] = e;
+        i += 1;
+    }
+    list
+}
+
+// A checksum with one more number in it.
+fn with_number(c: u64, v: u64) -> u64
+    requires { ⌜ (c < 4294967296) × (v < 65536) ⌝ }
+    ensures { λ r. ⌜ r < 4294967296 ⌝ }
+{
+    (c * 31 + v) % 4294967296
+}
+
+fn sum_of_numbers(nodes: &[u16; NUMBERS]) -> u64 {
+    let mut c: u64 = 0;
+    let mut i: usize = 0;
+    while i < NUMBERS {
+        c = with_number(c, wide_number(nodes[i]));
+        i += 1;
+    }
+    c
+}
+
+fn wide_number(v: u16) -> u64
+    ensures { λ r. ⌜ r < 65536 ⌝ }
+{
+    v as u64
+}
+
+fn sum_of_bytes(bytes: &[u8; BYTES]) -> u64 {
+    let mut c: u64 = 0;
+    let mut i: usize = 0;
+    while i < BYTES {
+        c = with_number(c, wide_byte(bytes[i]));
+        i += 1;
+    }
+    c
+}
+
+fn wide_byte(v: u8) -> u64
+    ensures { λ r. ⌜ r < 65536 ⌝ }
+{
+    v as u64
+}
+
+fn sum_of_list(list: [Entry; PLACES]) -> u64 {
+    let mut c: u64 = 0;
+    let mut i: usize = 0;
+    while i < PLACES {
+        let e = list[i];
+        c = with_decisions(with_number(c, wide_number(e.root)), e.decisions());
+        i += 1;
+    }
+    c
+}
+
+// A checksum with the 256 decisions of a set in it.
+fn with_decisions(c: u64, d: Decisions) -> u64
+    requires { ⌜ c < 4294967296 ⌝ }
+    ensures { λ r. ⌜ r < 4294967296 ⌝ }
+{
+    let mut sum = c;
+    let mut i: usize = 0;
+    while i < Limits::CHOICES {
+        sum = with_number(sum, number_of(d.side((i % 256) as u8)));
+        i += 1;
+    }
+    sum
+}
+
+fn number_of(side: Side) -> u64
+    ensures { λ r. ⌜ r < 65536 ⌝ }
+{
+    match side {
+        Side::Open => 0,
+        Side::Left => 1,
+        Side::Right => 2,
+    }
+}
+
+// The seven numbers.
+fn show_result(r: Outcome) {
+    show_item(r.number as u64);
+    show_item(r.place as u64);
+    show_item(r.turns as u64);
+    show_item(r.answers as u64);
+    show_item(r.nodes as u64);
+    show_item(r.choices as u64);
+    show_item(r.waiting as u64);
+}
+
+fn show_sums<'a>(nodes: &'a [u16; NUMBERS], list: [Entry; PLACES], bytes: &'a [u8; BYTES]) {
+    io::write_all(1, b"; nodes");
+    show_item(sum_of_numbers(nodes));
+    io::write_all(1, b" list");
+    show_item(sum_of_list(list));
+    io::write_all(1, b" bytes");
+    show_item(sum_of_bytes(bytes));
+    io::write_all(1, b"\n");
+}
+
+// A number behind what stands before it in its line.
+fn show_item(n: u64) {
+    io::write_all(1, b" ");
+    io::print_decimal(1, n);
+}

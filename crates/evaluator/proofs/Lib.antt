@@ -1,0 +1,4 @@
+pub mod Again
+pub mod Held
+pub mod Laying
+pub mod Rows

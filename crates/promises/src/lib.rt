@@ -1,0 +1,1 @@
+// Theorems alone: what is promised of the code's run (specs/ and proofs/).

@@ -1,0 +1,354 @@
+//! Admission: "The book and the question, as bytes" and numbers 1 to 5 and 11 to 15.
+//!
+//! Bytes are read front to back; the first fault met is given.
+
+use crate::seen::Seen;
+use crate::sizes::*;
+
+/// A fault's number (1 to 5 in the book, 11 to 15 in the question), its place, and a name for counting.
+#[derive(Clone, Copy, Debug, PartialEq, Eq)]
+pub struct Fault {
+    pub number: u8,
+    pub place: usize,
+    pub name: &'static str,
+}
+
+#[derive(Clone, Debug)]
+pub enum Expression {
+    Variable(usize),
+    Apply(usize, Vec<Expression>),
+    Choice(Box<Expression>, Box<Expression>),
+    Fail,
+}
+
+impl Expression {
+    /// "64 nodes in one expression (variables don't count)".
+    pub fn nodes(&self) -> usize {
+        match self {
+            Expression::Variable(_) => 0,
+            Expression::Apply(_, row) => 1 + row.iter().map(Expression::nodes).sum::<usize>(),
+            Expression::Choice(left, right) => 1 + left.nodes() + right.nodes(),
+            Expression::Fail => 1,
+        }
+    }
+
+    pub fn choices(&self) -> usize {
+        match self {
+            Expression::Variable(_) | Expression::Fail => 0,
+            Expression::Apply(_, row) => row.iter().map(Expression::choices).sum(),
+            Expression::Choice(left, right) => 1 + left.choices() + right.choices(),
+        }
+    }
+}
+
+#[derive(Clone, Debug)]
+pub enum Tree {
+    Exempt,
+    Rule(Expression),
+    /// The variable, and one tree for each constructor of its sort, in symbol order.
+    Branch(usize, Vec<Tree>),
+}
+
+#[derive(Clone, Debug)]
+pub struct Symbol {
+    pub operation: bool,
+    pub sort: u8,
+    pub arguments: Vec<u8>,
+    /// Operations only.
+    pub tree: Option<Tree>,
+    /// Constructors only: which of its sort's constructors it is, in symbol order.
+    pub rank: usize,
+}
+
+#[derive(Clone, Debug, Default)]
+pub struct Book {
+    pub symbols: Vec<Symbol>,
+}
+
+impl Book {
+    /// The constructors of a sort, in symbol order.
+    fn constructors(&self, sort: u8) -> Vec<usize> {
+        let fits = |n: &usize| !self.symbols[*n].operation && self.symbols[*n].sort == sort;
+        (0..self.symbols.len()).filter(fits).collect()
+    }
+}
+
+#[derive(Clone, Debug)]
+pub struct Question {
+    pub top: Expression,
+}
+
+/// Which of the two is read: fixes the numbers, and the names for counting.
+#[derive(Clone, Copy, PartialEq, Eq)]
+enum Reading {
+    Book,
+    Question,
+}
+
+use Reading::{Book as InBook, Question as InQuestion};
+
+impl Reading {
+    /// "11 to 15: the same in the question".
+    fn fault<T>(self, number: u8, place: usize, what: &str) -> Result<T, Fault> {
+        let (start, base) = match self {
+            InBook => ("fault book", 0),
+            InQuestion => ("fault question", 10),
+        };
+        let wanted = format!("{start} {number} {what}");
+        let name = crate::seen::FAULTS.iter().find(|name| **name == wanted).expect(&wanted);
+        Err(Fault { number: base + number, place, name })
+    }
+}
+
+/// A run of bytes up to `end`, read from `at`: a whole book or question, a part, or an item.
+#[derive(Clone, Copy)]
+struct Reader<'a> {
+    bytes: &'a [u8],
+    at: usize,
+    end: usize,
+    reading: Reading,
+}
+
+impl<'a> Reader<'a> {
+    fn over(bytes: &'a [u8], reading: Reading) -> Reader<'a> {
+        Reader { bytes, at: 0, end: bytes.len(), reading }
+    }
+
+    /// "a needed byte lies past its part or item (place: that end)".
+    fn byte(&mut self) -> Result<u8, Fault> {
+        if self.at >= self.end {
+            return self.reading.fault(1, self.end, "needed byte");
+        }
+        self.at += 1;
+        Ok(self.bytes[self.at - 1])
+    }
+
+    /// "Numbers are big-endian."
+    fn two_bytes(&mut self) -> Result<usize, Fault> {
+        let high = self.byte()? as usize;
+        let low = self.byte()? as usize;
+        Ok(high * 256 + low)
+    }
+
+    /// A two-byte length and what it counts. "a length runs past what encloses it (place: the length)".
+    fn part(&mut self) -> Result<Reader<'a>, Fault> {
+        let place = self.at;
+        let length = self.two_bytes()?;
+        if self.at + length > self.end {
+            return self.reading.fault(1, place, "length past");
+        }
+        let part = Reader { end: self.at + length, ..*self };
+        self.at += length;
+        Ok(part)
+    }
+
+    /// "bytes left over (place: the first)".
+    fn finish(&self) -> Result<(), Fault> {
+        if self.at < self.end {
+            return self.reading.fault(1, self.at, "left over");
+        }
+        Ok(())
+    }
+}
+
+/// Admission of a book.
+pub fn book(bytes: &[u8]) -> Result<Book, Fault> {
+    if bytes.len() > BOOK_BYTES {
+        return InBook.fault(1, 0, "over its size");
+    }
+    let mut whole = Reader::over(bytes, InBook);
+    if whole.byte()? != 1 {
+        return InBook.fault(2, 0, "version");
+    }
+    let length_place = whole.at;
+    let symbol_part = whole.part()?;
+    if symbol_part.at == symbol_part.end {
+        return InBook.fault(3, length_place, "no symbols");
+    }
+    let mut book = Book { symbols: symbols(symbol_part)? };
+    let mut tree_part = whole.part()?;
+    for number in 0..book.symbols.len() {
+        if book.symbols[number].operation {
+            let mut item = tree_part.part()?;
+            let variables = book.symbols[number].arguments.clone();
+            let branched = vec![false; variables.len()];
+            let sort = book.symbols[number].sort;
+            let read = tree(&book, &mut item, sort, &variables, &branched)?;
+            item.finish()?;
+            book.symbols[number].tree = Some(read);
+        }
+    }
+    tree_part.finish()?;
+    whole.finish()?;
+    Ok(book)
+}
+
+/// "Symbols are numbered from 0. Each opens with one length byte (2 to 10), then kind ..., result sort
+/// ..., and the sorts of its arguments".
+fn symbols(mut part: Reader) -> Result<Vec<Symbol>, Fault> {
+    let mut symbols: Vec<Symbol> = Vec::new();
+    while part.at < part.end {
+        let place = part.at;
+        let length = part.byte()? as usize;
+        // Three faults have the length byte for their place: "two at one place, the lower number".
+        if part.at + length > part.end {
+            return InBook.fault(1, place, "length past");
+        }
+        if symbols.len() == SYMBOLS {
+            return InBook.fault(3, place, "1,025th symbol");
+        }
+        if !SYMBOL_LENGTHS.contains(&length) {
+            return InBook.fault(3, place, "symbol length");
+        }
+        let kind = part.byte()?;
+        if kind > 1 {
+            return InBook.fault(3, part.at - 1, "kind");
+        }
+        let mut sorts = Vec::new();
+        for _ in 1..length {
+            let sort = part.byte()?;
+            if sort > HIGHEST_SORT {
+                return InBook.fault(3, part.at - 1, "sort");
+            }
+            sorts.push(sort);
+        }
+        let sort = sorts.remove(0);
+        let rank = symbols.iter().filter(|other| !other.operation && other.sort == sort).count();
+        symbols.push(Symbol { operation: kind == 1, sort, arguments: sorts, tree: None, rank });
+    }
+    Ok(symbols)
+}
+
+/// One tree. `variables` are the sorts of the variables of this path, `branched` those already branched on.
+fn tree(book: &Book, item: &mut Reader, sort: u8, variables: &[u8], branched: &[bool]) -> Result<Tree, Fault> {
+    let place = item.at;
+    match item.byte()? {
+        0 => Ok(Tree::Exempt),
+        1 => {
+            // "a rule has its operation's result sort".
+            let mut nodes = 0;
+            Ok(Tree::Rule(expression(book, item, sort, variables, &mut nodes)?))
+        }
+        2 => {
+            let place = item.at;
+            let variable = item.byte()? as usize;
+            if variable >= variables.len() {
+                return InBook.fault(4, place, "variable not there, branch");
+            }
+            if branched[variable] {
+                return InBook.fault(4, place, "branched on twice");
+            }
+            // The place of "a branch that would bind past 32" is the variable's byte, so it is met
+            // before anything in the trees below.
+            let constructors = book.constructors(variables[variable]);
+            for number in &constructors {
+                if variables.len() + book.symbols[*number].arguments.len() > VARIABLES {
+                    return InBook.fault(4, place, "binds past 32");
+                }
+            }
+            let mut cases = Vec::new();
+            for number in &constructors {
+                // "the constructor's arguments take the next free numbers on that path".
+                let mut more = variables.to_vec();
+                more.extend(&book.symbols[*number].arguments);
+                let mut done = branched.to_vec();
+                done[variable] = true;
+                done.resize(more.len(), false);
+                cases.push(tree(book, item, sort, &more, &done)?);
+            }
+            Ok(Tree::Branch(variable, cases))
+        }
+        _ => InBook.fault(4, place, "tree code"),
+    }
+}
+
+/// "At an expression: code, node count, its symbol or variable byte, sort, then its arguments or sides."
+fn expression(
+    book: &Book,
+    item: &mut Reader,
+    sort: u8,
+    variables: &[u8],
+    nodes: &mut usize,
+) -> Result<Expression, Fault> {
+    let reading = item.reading;
+    let code_place = item.at;
+    let code = item.byte()?;
+    if code > 3 {
+        return reading.fault(4, code_place, "expression code");
+    }
+    // "65th node (place: its code)"; "variables don't count".
+    if code != 0 {
+        *nodes += 1;
+        if *nodes > EXPRESSION_NODES {
+            return reading.fault(4, code_place, "65th node");
+        }
+    }
+    match code {
+        0 => {
+            let place = item.at;
+            let variable = item.byte()? as usize;
+            if variable >= variables.len() {
+                return reading.fault(4, place, "variable not there, expression");
+            }
+            if variables[variable] != sort {
+                return reading.fault(5, code_place, "variable");
+            }
+            Ok(Expression::Variable(variable))
+        }
+        1 => {
+            let place = item.at;
+            let number = item.two_bytes()?;
+            if number >= book.symbols.len() {
+                return reading.fault(4, place, "symbol not there");
+            }
+            let symbol = &book.symbols[number];
+            if symbol.sort != sort {
+                return reading.fault(5, code_place, "apply");
+            }
+            let mut row = Vec::new();
+            for argument in &symbol.arguments {
+                row.push(expression(book, item, *argument, variables, nodes)?);
+            }
+            Ok(Expression::Apply(number, row))
+        }
+        2 => {
+            // "a choice has the sort asked for on both sides".
+            let left = expression(book, item, sort, variables, nodes)?;
+            let right = expression(book, item, sort, variables, nodes)?;
+            Ok(Expression::Choice(Box::new(left), Box::new(right)))
+        }
+        _ => Ok(Expression::Fail), // "A fail fits every sort".
+    }
+}
+
+/// Admission of a question against an admitted book.
+pub fn question(book: &Book, bytes: &[u8]) -> Result<Question, Fault> {
+    if bytes.len() > QUESTION_BYTES {
+        return InQuestion.fault(1, 0, "over its size");
+    }
+    let mut whole = Reader::over(bytes, InQuestion);
+    if whole.byte()? != 1 {
+        return InQuestion.fault(2, 0, "version");
+    }
+    let mut part = whole.part()?;
+    let place = part.at;
+    let sort = part.byte()?;
+    if sort > HIGHEST_SORT {
+        return InQuestion.fault(3, place, "sort");
+    }
+    // "one expression of that sort with no variables bound".
+    let mut nodes = 0;
+    let top = expression(book, &mut part, sort, &[], &mut nodes)?;
+    part.finish()?;
+    whole.finish()?;
+    Ok(Question { top })
+}
+
+/// Both, "Book before question".
+pub fn both(book_bytes: &[u8], question_bytes: &[u8], seen: &mut Seen) -> Result<(Book, Question), Fault> {
+    let admitted = book(book_bytes).and_then(|b| question(&b, question_bytes).map(|q| (b, q)));
+    if let Err(fault) = &admitted {
+        seen.note(fault.name);
+    }
+    admitted
+}

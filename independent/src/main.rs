@@ -1,0 +1,86 @@
+//! An evaluator of document 01 that shares nothing with `crates/`, and a comparison of the two.
+//! README.md says how to run it.
+
+mod admit;
+mod compare;
+mod edges;
+mod encode;
+mod evaluator;
+mod expand;
+mod make;
+mod random;
+mod seen;
+mod sizes;
+mod sorted;
+mod special;
+#[cfg(test)]
+mod worked;
+
+use std::io::{Read, Write};
+
+const DEFAULT_SEED: u64 = 1;
+const DEFAULT_COUNT: u64 = 20_000;
+
+const USAGE: &str = "usage:
+  independent expand                       standard input to standard output, as the program `expand`
+  independent edges                        the same, as the program `edges`
+  independent make SEED NUMBER             one input of a seed, to standard output
+  independent compare PROGRAM [--emulator CMD] [--seed S] [--count N] [--threads T] [--keep FILE]";
+
+fn main() {
+    let words: Vec<String> = std::env::args().skip(1).collect();
+    match words.first().map(String::as_str) {
+        Some("expand") if words.len() == 1 => {
+            let mut input = Vec::new();
+            std::io::stdin().read_to_end(&mut input).expect("standard input");
+            print!("{}", expand::expand(&input, &mut seen::Seen::default()).0);
+        }
+        Some("edges") if words.len() == 1 => {
+            let mut table = Vec::new();
+            std::io::stdin().read_to_end(&mut table).expect("standard input");
+            print!("{}", edges::edges(&table).expect("a whole table"));
+        }
+        Some("make") if words.len() == 3 => {
+            let made = make::make(number(&words[1]), number(&words[2]));
+            eprintln!("made as {}", made.kind);
+            std::io::stdout().write_all(&made.input).expect("standard output");
+        }
+        Some("compare") if words.len() >= 2 => {
+            let settings = settings(&words[1..]);
+            std::process::exit(if compare::compare(&settings) { 0 } else { 1 });
+        }
+        _ => usage(),
+    }
+}
+
+fn usage() -> ! {
+    eprintln!("{USAGE}");
+    std::process::exit(2);
+}
+
+fn number(word: &str) -> u64 {
+    word.parse().unwrap_or_else(|_| usage())
+}
+
+fn settings(words: &[String]) -> compare::Settings {
+    let threads = std::thread::available_parallelism().map_or(1, |count| count.get());
+    let keep = std::env::temp_dir().join("independent-difference.bin").to_string_lossy().into_owned();
+    let mut settings =
+        compare::Settings { command: Vec::new(), seed: DEFAULT_SEED, count: DEFAULT_COUNT, threads, keep };
+    let mut program = None;
+    let mut rest = words.iter();
+    while let Some(word) = rest.next() {
+        let mut value = || rest.next().cloned().unwrap_or_else(|| usage());
+        match word.as_str() {
+            "--emulator" => settings.command = value().split_whitespace().map(String::from).collect(),
+            "--seed" => settings.seed = number(&value()),
+            "--count" => settings.count = number(&value()),
+            "--threads" => settings.threads = number(&value()).max(1) as usize,
+            "--keep" => settings.keep = value(),
+            _ if program.is_none() && !word.starts_with("--") => program = Some(word.clone()),
+            _ => usage(),
+        }
+    }
+    settings.command.push(program.unwrap_or_else(|| usage()));
+    settings
+}

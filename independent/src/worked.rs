@@ -1,0 +1,234 @@
+//! The worked cases of "The small book and what it gives", and some of the tables, as tests.
+
+use crate::evaluator::{evaluate, Decision, Entry, Memory, Outcome};
+use crate::expand::expand;
+use crate::seen::Seen;
+
+const SMALL_BOOK: &str =
+    "01 0012 020000 020000 0401000000 020100 03010000 0021 000F 0200 010001 0201 01010001 01010000 \
+                          0004 01010003 0008 0101000200000000";
+const D: &str = "01 000B 00 010004 02 010000 010001";
+
+fn bytes(hex: &str) -> Vec<u8> {
+    let digits: Vec<u32> = hex.chars().filter_map(|c| c.to_digit(16)).collect();
+    digits.chunks(2).map(|pair| (pair[0] * 16 + pair[1]) as u8).collect()
+}
+
+/// A run of the small book over memory that holds marks, so that untouched room shows.
+fn run(question: &str, fuel: u32, nodes: usize, places: usize, answers: usize) -> (Outcome, Memory) {
+    run_book(&bytes(SMALL_BOOK), &bytes(question), fuel, nodes, places, answers)
+}
+
+fn marked(nodes: usize, places: usize, answers: usize) -> Memory {
+    let mut memory = Memory::sized(nodes, places, answers);
+    memory.nodes.fill(7777);
+    memory.answers.fill(77);
+    for entry in &mut memory.list {
+        entry.root = 77;
+        entry.decisions.fill(Decision::Right);
+    }
+    memory
+}
+
+fn run_book(book: &[u8], question: &[u8], fuel: u32, nodes: usize, places: usize, answers: usize) -> (Outcome, Memory) {
+    let mut memory = marked(nodes, places, answers);
+    let outcome = evaluate(book, question, fuel, &mut memory, &mut Seen::default());
+    (outcome, memory)
+}
+
+fn of(number: u8, place: usize, counts: [usize; 5]) -> Outcome {
+    let [turns, answers, nodes, choices, waiting] = counts;
+    Outcome { number, place, turns: turns as u32, answers, nodes, choices, waiting }
+}
+
+fn input(book: &[u8], question: &[u8], fuel: u32) -> Vec<u8> {
+    let mut input = (book.len() as u16).to_be_bytes().to_vec();
+    input.extend(book);
+    input.extend((question.len() as u16).to_be_bytes());
+    input.extend(question);
+    input.extend(fuel.to_be_bytes());
+    input
+}
+
+fn printed(input: &[u8]) -> String {
+    expand(input, &mut Seen::default()).0
+}
+
+#[test]
+fn the_small_book_is_56_bytes() {
+    assert_eq!(bytes(SMALL_BOOK).len(), 56);
+}
+
+#[test]
+fn d_with_fuel_10() {
+    let whole = input(&bytes(SMALL_BOOK), &bytes(D), 10);
+    assert_eq!(printed(&whole), "A 0 | 0\nA 0 | 1\nR 0 0 10 2 8 1 0\n");
+    for end in 0..whole.len() {
+        assert_eq!(printed(&whole[..end]), "J\n");
+    }
+    assert_eq!(printed(&[&whole[..], &[0]].concat()), "J\n");
+}
+
+#[test]
+fn d_with_fuel_9_and_0() {
+    let (outcome, memory) = run(D, 9, 3200, 64, 16384);
+    assert_eq!(outcome, of(20, 0, [9, 1, 8, 1, 1]));
+    assert_eq!(memory.list[0].decisions[0], Decision::Right);
+    assert!(memory.list[1..].iter().all(|entry| *entry == Entry::new(0)));
+    let (outcome, memory) = run(D, 0, 3200, 70, 16384);
+    assert_eq!(outcome, of(20, 0, [0, 0, 4, 1, 1]));
+    let loaded = [[0, 4, 1], [1, 0, 2], [0, 0, 0], [0, 1, 0]];
+    for (number, start) in loaded.iter().enumerate() {
+        assert_eq!(memory.nodes[10 * number..10 * number + 3], *start);
+    }
+    assert_eq!(memory.nodes[10 * 1 + 3], 3);
+    assert!(memory.nodes[40..].iter().all(|n| *n == 7777));
+    assert_eq!(memory.answers[..2], [1, 77]);
+    assert!(memory.list[..64].iter().all(|entry| *entry == Entry::new(0)));
+    assert!(memory.list[64..].iter().all(|entry| entry.root == 77)); // "list places past 64, are untouched"
+}
+
+#[test]
+fn d_with_8_7_and_3_nodes() {
+    assert_eq!(run(D, 10, 8, 64, 16384).0, of(0, 0, [10, 2, 8, 1, 0]));
+    assert_eq!(run(D, 10, 7, 64, 16384).0, of(21, 0, [4, 0, 6, 1, 2]));
+    let (outcome, memory) = run(D, 10, 3, 64, 16384);
+    assert_eq!(outcome, of(21, 0, [0; 5]));
+    assert_eq!(memory, marked(3, 64, 16384));
+}
+
+#[test]
+fn d_with_17_and_16_answer_bytes() {
+    let (outcome, memory) = run(D, 10, 3200, 64, 17);
+    assert_eq!(outcome, of(0, 0, [10, 2, 8, 1, 0]));
+    assert_eq!(memory.answers, bytes("01 0006 0001 0000 0000 0006 0001 0000 0001"));
+    let (outcome, memory) = run(D, 10, 3200, 64, 16);
+    assert_eq!(outcome, of(25, 0, [9, 1, 8, 1, 1]));
+    assert_eq!(memory.answers[9..], [77; 7]);
+}
+
+#[test]
+fn loading_refuses_25_then_21_then_23() {
+    assert_eq!(run(D, 10, 3, 0, 0), (of(25, 0, [0; 5]), marked(3, 0, 0)));
+    assert_eq!(run(D, 10, 3, 0, 1), (of(21, 0, [0; 5]), marked(3, 0, 1)));
+    assert_eq!(run(D, 10, 4, 0, 1), (of(23, 0, [0; 5]), marked(4, 0, 1)));
+    assert_eq!(run(D, 10, 4, 1, 1).0.number, 21); // the pull-up of the second turn
+    assert_eq!(run(D, 10, 8, 1, 1).0, of(23, 0, [2, 0, 6, 1, 1]));
+}
+
+#[test]
+fn loop_or_false() {
+    let (outcome, memory) = run("01 0008 00 02 010003 010000", 10, 3200, 64, 16384);
+    assert_eq!(outcome, of(20, 0, [10, 1, 3, 1, 1]));
+    assert_eq!(memory.answers[..9], bytes("01 0006 0001 0000 0001"));
+}
+
+#[test]
+fn xor_of_fail_and_loop() {
+    assert_eq!(run("01 0008 00 010002 03 010003", 10, 3200, 64, 16384).0, of(0, 0, [2, 0, 3, 0, 0]));
+}
+
+#[test]
+fn faults_of_the_book() {
+    let small = bytes(SMALL_BOOK);
+    let at = |book: &[u8]| {
+        let (outcome, memory) = run_book(book, &bytes(D), 10, 8, 64, 17);
+        assert_eq!(memory, marked(8, 64, 17));
+        (outcome.number, outcome.place)
+    };
+    assert_eq!(at(&[]), (1, 0));
+    assert_eq!(at(&small[..55]), (1, 21));
+    assert_eq!(at(&[&small[..], &[0]].concat()), (1, 56));
+    assert_eq!(at(&vec![2; 32769]), (1, 0));
+    assert_eq!(at(&vec![2; 32768]), (2, 0));
+    assert_eq!(at(&bytes("01 0000 0000")), (3, 1));
+    assert_eq!(at(&bytes("01 0001 0B")), (1, 3)); // runs past the part: the lower number
+    assert_eq!(at(&bytes("01 0001 00 0000")), (3, 3));
+    assert_eq!(at(&bytes("01 0003 020100 0004 0002 0200")), (4, 11)); // no variable 0
+}
+
+#[test]
+fn a_branch_on_a_sort_without_constructors_has_no_trees() {
+    let book = bytes("01 0004 03010001 0004 0002 0200");
+    assert!(crate::admit::book(&book).is_ok());
+}
+
+#[test]
+fn faults_of_the_question() {
+    let at = |question: &str| {
+        let (outcome, memory) = run(question, 10, 8, 64, 17);
+        assert_eq!(memory, marked(8, 64, 17));
+        (outcome.number, outcome.place)
+    };
+    assert_eq!(at("01 0003 00 0000"), (14, 5));
+    assert_eq!(at("01 0004 01 010000"), (15, 4));
+    assert_eq!(at(""), (11, 0));
+    assert_eq!(at("00"), (12, 0));
+    assert_eq!(at("01 00"), (11, 2));
+    assert_eq!(at("01 0000"), (11, 3));
+    assert_eq!(at("01 0001 40"), (13, 3));
+    assert_eq!(at("01 0001 3F"), (11, 4));
+}
+
+/// "Run by a program: 256 choices and 257, 64 entries and 65, values of 4,096 and 4,097 symbols, depth 255
+/// and 256."
+mod at_the_edges {
+    use super::*;
+    use crate::admit::Expression::{Apply, Fail, Variable};
+    use crate::admit::{Book, Expression, Tree::Rule};
+    use crate::encode;
+    use crate::sorted::operation;
+    use crate::special::{add, doubler, leaf, numbers, one, or, sized, times, S, Z};
+
+    fn run(book: &Book, top: &Expression, fuel: u32) -> Outcome {
+        run_book(&encode::book(book).bytes, &encode::question(0, top).bytes, fuel, 3200, 64, 16384).0
+    }
+
+    #[test]
+    fn depth() {
+        let mut book = numbers();
+        let many = add(&mut book, operation(0, &[0], Rule(times(S, 51, Variable(0)))));
+        let top = times(many, 5, leaf(Z));
+        assert_eq!(run(&book, &top, 100), of(0, 0, [6, 1, 6 + 5 * 50, 0, 0]));
+        assert_eq!(run(&book, &one(S, top), 100), of(24, 0, [5, 0, 7 + 5 * 50, 0, 1]));
+    }
+
+    #[test]
+    fn symbols_of_a_value() {
+        let mut book = numbers();
+        let double = doubler(&mut book);
+        let outcome = run(&book, &sized(double, 4096), 100);
+        assert_eq!((outcome.number, outcome.answers, outcome.turns), (0, 1, 12));
+        let outcome = run(&book, &sized(double, 4097), 100);
+        assert_eq!((outcome.number, outcome.answers, outcome.waiting), (24, 0, 1));
+    }
+
+    #[test]
+    fn choices() {
+        let mut book = numbers();
+        let mut last = leaf(Z);
+        for _ in 0..8 {
+            last = leaf(add(&mut book, operation(0, &[], Rule((0..31).fold(last, |rest, _| or(Fail, rest))))));
+        }
+        let mut more = book.clone();
+        let eight = add(&mut book, operation(0, &[], Rule((0..8).fold(last.clone(), |rest, _| or(Fail, rest)))));
+        let outcome = run(&book, &leaf(eight), 10_000);
+        assert_eq!((outcome.number, outcome.answers, outcome.choices), (0, 1, 256));
+        let nine = add(&mut more, operation(0, &[], Rule((0..9).fold(last, |rest, _| or(Fail, rest)))));
+        let outcome = run(&more, &leaf(nine), 10_000);
+        assert_eq!((outcome.number, outcome.answers, outcome.choices), (22, 0, 9 + 7 * 31));
+    }
+
+    #[test]
+    fn entries() {
+        let mut book = numbers();
+        let idle = book.symbols.len();
+        add(&mut book, operation(0, &[], Rule(Apply(idle, vec![]))));
+        let many = add(&mut book, operation(0, &[], Rule((1..32).fold(leaf(idle), |rest, _| or(leaf(idle), rest)))));
+        let top = or(leaf(many), leaf(many));
+        let outcome = run(&book, &top, 10_000);
+        assert_eq!((outcome.number, outcome.turns, outcome.waiting), (20, 10_000, 64));
+        let outcome = run(&book, &or(top, leaf(idle)), 10_000);
+        assert_eq!((outcome.number, outcome.waiting), (23, 64));
+    }
+}

@@ -1,0 +1,521 @@
+#!/usr/bin/env python3
+"""Writes crates/edges/stdin and stdout: a table of runs at the edges of document 01's sizes, and what each gives.
+
+A row of stdin: a label (two-byte length, text), how many node numbers, list places and answer bytes are lent (two bytes each), the fuel
+(four bytes), a book and a question (two-byte length, bytes). A line of stdout: the label, the seven result numbers, and a checksum of all
+the node numbers, all the list places and all the answer bytes that the program has, lent or not: 32,010, 100 and 16,400. Before a run each
+number is 48,879, each place has root 7 and all open, each byte is 170. A checksum begins at 0 and becomes (c * 31 + v) % 2^32 for each
+number v; an entry's are its root and its 256 decisions (0 open, 1 left, 2 right).
+
+stdout is made by the independent evaluator (independent/, subcommand `edges`), never by the program. Beside each row stands what was worked
+out by hand from document 01: the seven numbers, and what the used part of each memory holds. The script works these out to checksums and
+asserts that the evaluator's lines are the same.
+
+usage: tools/edge_cases.py            (builds the evaluator with cargo, writes both files)
+"""
+import os
+import subprocess
+import sys
+
+here = os.path.dirname(os.path.abspath(__file__))
+repository = os.path.join(here, '..')
+top = os.path.join(repository, 'crates', 'edges')
+
+NUMBERS, PLACES, BYTES = 32010, 100, 16400
+rows = []
+
+
+class Left:
+    """What a run leaves: nodes (ten numbers each), the waiting entries (root, {choice: side}), the answer bytes."""
+
+    def __init__(self, nodes, waiting, answers):
+        self.nodes, self.waiting, self.answers = nodes, waiting, answers
+
+
+def case(label, result, left, book, question, fuel=1000, numbers=32000, places=64, room=16384):
+    """A row; `left` is None for memory that is untouched, and 'archive' where only the seven numbers are known by hand."""
+    rows.append((label, result, left, bytes(book), bytes(question), fuel, numbers, places, room))
+
+
+# ---- bytes of books and questions
+
+def two(n):
+    return bytes([n // 256, n % 256])
+
+
+def part(body):
+    return two(len(body)) + body
+
+
+def hx(text):
+    return bytes.fromhex(text.replace(' ', ''))
+
+
+def symbol(kind, *arguments):
+    """A symbol of sort 0, all arguments of sort 0."""
+    return bytes([2 + len(arguments), kind, 0, *arguments])
+
+
+def constructor(arguments=0):
+    return symbol(0, *[0] * arguments)
+
+
+def operation(arguments=0):
+    return symbol(1, *[0] * arguments)
+
+
+def book(symbols, trees):
+    return b'\x01' + part(b''.join(symbols)) + part(b''.join(part(t) for t in trees))
+
+
+def asked(expression):
+    return b'\x01' + part(b'\x00' + expression)
+
+
+def apply(f, *arguments):
+    return b'\x01' + two(f) + b''.join(arguments)
+
+
+def choice(a, b):
+    return b'\x02' + a + b
+
+
+FAIL = b'\x03'
+
+
+def var(x):
+    return bytes([0, x])
+
+
+def rule(expression):
+    return b'\x01' + expression
+
+
+def branch(x, *trees):
+    return bytes([2, x]) + b''.join(trees)
+
+
+def times(f, count, inner):
+    for _ in range(count):
+        inner = apply(f, inner)
+    return inner
+
+
+# ---- nodes, entries and records as document 01 writes them
+
+def node(kind, label, *arrows):
+    return [kind, label] + list(arrows) + [0] * (8 - len(arrows))
+
+
+def n_apply(f, *arrows):
+    return node(0, f, *arrows)
+
+
+def n_choice(c, left, right):
+    return node(1, c, left, right)
+
+
+N_FAIL = node(2, 0)
+
+
+def n_forward(to):
+    return node(3, 0, to)
+
+
+LEFT, RIGHT = 1, 2
+
+
+def record(symbols, decisions):
+    body = two(len(symbols)) + b''.join(two(s) for s in symbols)
+    body += b''.join(two(2 * c + (decisions[c] == RIGHT)) for c in sorted(decisions))
+    return two(len(body)) + body
+
+
+def answers(*records):
+    return b'\x01' + b''.join(records)
+
+
+# ---- the small book and D (dup of False or True), with what is left after each of its ten turns
+
+SMALL = hx('01 0012 020000 020000 0401000000 020100 03010000 0021'
+           '000F 0200 010001 0201 01010001 01010000 0004 01010003 0008 0101000200000000')
+D = hx('01 000B 00 010004 02 010000 010001')
+FALSE, TRUE, XOR, LOOP, DUP = range(5)
+assert len(SMALL) == 56
+
+
+def d_after(turns):
+    """Loaded: 0 dup(1), 1 choice 0 (2, 3), 2 False, 3 True; then one line for each turn."""
+    nodes = [n_apply(DUP, 1), n_choice(0, 2, 3), n_apply(FALSE), n_apply(TRUE)]
+    waiting = [(0, {})]
+    written = answers()
+    l, r = {0: LEFT}, {0: RIGHT}
+    if turns >= 1:  # dup's rule: xor of its argument's arrow twice, in its own node
+        nodes[0] = n_apply(XOR, 1, 1)
+    if turns >= 2:  # xor looks at its first argument, a choice: pulled up, nodes 4 and 5
+        nodes[0] = n_choice(0, 4, 5)
+        nodes += [n_apply(XOR, 2, 1), n_apply(XOR, 3, 1)]
+    if turns >= 3:  # the split
+        waiting = [(4, l), (5, r)]
+    if turns >= 4:  # xor of False and y is y: a forward
+        nodes[4] = n_forward(1)
+        waiting = [(5, r), (4, l)]
+    if turns >= 5:  # xor of True looks at its second argument, a choice: pulled up, nodes 6 and 7
+        nodes[5] = n_choice(0, 6, 7)
+        nodes += [n_apply(XOR, 3, 2), n_apply(XOR, 3, 3)]
+        waiting = [(4, l), (5, r)]
+    if turns >= 6:  # behind the forward the choice, decided left
+        waiting = [(5, r), (2, l)]
+    if turns >= 7:  # decided right
+        waiting = [(2, l), (7, r)]
+    if turns >= 8:  # False is written
+        waiting = [(7, r)]
+        written = answers(record([FALSE], l))
+    if turns >= 9:  # xor of True and True
+        nodes[7] = n_apply(FALSE)
+    if turns >= 10:  # False is written once more
+        waiting = []
+        written = answers(record([FALSE], l), record([FALSE], r))
+    return Left(nodes, waiting, written)
+
+
+d_done = (0, 0, 10, 2, 8, 1, 0)
+assert len(d_after(10).answers) == 17
+
+# ---- fuel: D takes ten turns; the turn that is not made is not counted
+case('D, fuel 10', d_done, d_after(10), SMALL, D, fuel=10)
+case('D, fuel 9: one turn short', (20, 0, 9, 1, 8, 1, 1), d_after(9), SMALL, D, fuel=9)
+case('D, fuel 0: loaded, no turn', (20, 0, 0, 0, 4, 1, 1), d_after(0), SMALL, D, fuel=0)
+case('D, fuel 4,294,967,295: the largest', d_done, d_after(10), SMALL, D, fuel=4294967295)
+
+# ---- node room: D needs eight nodes, the fifth turn takes the last two; four are loaded
+case('D, 8 nodes: used to the last', d_done, d_after(10), SMALL, D, fuel=10, numbers=80)
+case('D, 7 nodes: the second pull-up needs one more', (21, 0, 4, 0, 6, 1, 2), d_after(4), SMALL, D, fuel=10, numbers=70)
+case('D, 4 nodes: loaded, the first pull-up needs two more', (21, 0, 1, 0, 4, 1, 1), d_after(1), SMALL, D, fuel=10, numbers=40)
+case('D, 3 nodes: not loaded, nothing touched', (21, 0, 0, 0, 0, 0, 0), None, SMALL, D, fuel=10, numbers=30)
+case('D, node room of 0 numbers', (21, 0, 0, 0, 0, 0, 0), None, SMALL, D, fuel=10, numbers=0)
+# only whole nodes are used: the part node at the end of the room stays as it was
+case('D, 85 numbers: 8 whole nodes and half of one', d_done, d_after(10), SMALL, D, fuel=10, numbers=85)
+case('D, 79 numbers: 7 whole nodes and nine numbers', (21, 0, 4, 0, 6, 1, 2), d_after(4), SMALL, D, fuel=10, numbers=79)
+case('D, 39 numbers: 3 whole nodes, not loaded', (21, 0, 0, 0, 0, 0, 0), None, SMALL, D, fuel=10, numbers=39)
+
+# ---- answer room: a byte for the version and two records of eight bytes
+case('D, 17 answer bytes: used to the last', d_done, d_after(10), SMALL, D, fuel=10, room=17)
+case('D, 16 answer bytes: one short for the second record', (25, 0, 9, 1, 8, 1, 1), d_after(9), SMALL, D, fuel=10, room=16)
+case('D, 9 answer bytes: the first record to the last byte', (25, 0, 9, 1, 8, 1, 1), d_after(9), SMALL, D, fuel=10, room=9)
+# the eighth turn writes the first record: with 8 bytes it is refused after seven, and only the version byte stands
+case('D, 8 answer bytes: one short for the first record', (25, 0, 7, 0, 8, 1, 2), d_after(7), SMALL, D, fuel=10, room=8)
+case('D, 1 answer byte: the version byte alone', (25, 0, 7, 0, 8, 1, 2), d_after(7), SMALL, D, fuel=10, room=1)
+case('D, answer room 0: nothing touched', (25, 0, 0, 0, 0, 0, 0), None, SMALL, D, fuel=10, room=0)
+case('D, no room of any kind: 25 comes first', (25, 0, 0, 0, 0, 0, 0), None, SMALL, D, fuel=10, numbers=0, places=0, room=0)
+
+# ---- list: the split of the third turn needs two places
+case('D, list of 2 places: used to the last', d_done, d_after(10), SMALL, D, fuel=10, places=2)
+case('D, list of 1 place: the split needs one more', (23, 0, 2, 0, 6, 1, 1), d_after(2), SMALL, D, fuel=10, places=1)
+case('D, list of 0 places: nothing touched', (23, 0, 0, 0, 0, 0, 0), None, SMALL, D, fuel=10, places=0)
+case('D, no nodes and no places: 21 comes before 23', (21, 0, 0, 0, 0, 0, 0), None, SMALL, D, fuel=10, numbers=0, places=0)
+case('D, list of 100 places: those past 64 stay as they were', d_done, d_after(10), SMALL, D, fuel=10, places=100)
+case('D, list of 100 places, fuel 3: two wait', (20, 0, 3, 0, 6, 1, 2), d_after(3), SMALL, D, fuel=3, places=100)
+case('D, list of 63 places, fuel 3: two wait', (20, 0, 3, 0, 6, 1, 2), d_after(3), SMALL, D, fuel=3, places=63)
+# xor of True and True, no choice: its node becomes False in the first turn, which the second writes
+case('no choice, list of 1 place', (0, 0, 2, 1, 3, 0, 0),
+     Left([n_apply(FALSE), n_apply(TRUE), n_apply(TRUE)], [], answers(record([FALSE], {}))),
+     SMALL, asked(apply(XOR, apply(TRUE), apply(TRUE))), fuel=10, places=1)
+
+# ---- refused before it is run
+case('a book with a byte left over: nothing touched', (1, 56, 0, 0, 0, 0, 0), None, SMALL + b'\x00', D, fuel=10)
+case('a question with a variable: nothing touched', (14, 5, 0, 0, 0, 0, 0), None, SMALL, hx('01 0003 00 0000'), fuel=10)
+case('a question with a variable, list of 100 places', (14, 5, 0, 0, 0, 0, 0), None, SMALL, hx('01 0003 00 0000'), fuel=10, places=100)
+
+# ---- 256 choices: eight(x) is a row of eight choices, each fail on its left, x at the end of the right; one(x) has one such choice
+Z0, EIGHT, ONE = range(3)
+
+
+def row_of(count):
+    e = var(0)
+    for _ in range(count):
+        e = choice(FAIL, e)
+    return rule(e)
+
+
+CHOICES = book([constructor(), operation(1), operation(1)], [row_of(8), row_of(1)])
+
+
+def eights(inner):
+    """What 32 eights leave: node i is the first choice of the i-th, whose other 15 nodes are fresh, in the order written: fail, choice,
+    fail, .. fail; the eighth choice's right arrow is the argument's, node i + 1. `inner` are the nodes behind them."""
+    nodes = [None] * 32 + inner
+    for i in range(32):
+        fresh = len(nodes)
+        nodes += [None] * 15
+        at = [i] + [fresh + 2 * j - 1 for j in range(1, 8)] + [i + 1]
+        for j in range(8):
+            nodes[at[j]] = n_choice(8 * i + j, fresh + 2 * j, at[j + 1])
+            nodes[fresh + 2 * j] = N_FAIL
+    return nodes
+
+
+all_right = {c: RIGHT for c in range(256)}
+in_full = asked(times(EIGHT, 32, apply(Z0)))
+decided = Left(eights([n_apply(Z0)]), [], answers(record([Z0], all_right)))
+# Each eight takes a turn to be rewritten; each of its choices one to be split and one in which the fail goes: 17 turns, 544 in all. Then
+# the entry waits on Z with every choice decided right, and the 545th turn writes it. Nodes: 33 loaded, 15 fresh for each eight: 513.
+case('256 choices, all decided', (0, 0, 545, 1, 513, 256, 0), decided, CHOICES, in_full)
+# The record: 2 for its length, 2 for the count, 2 for the symbol, 512 for the decisions; and the version byte.
+assert len(decided.answers) == 519
+case('256 choices, answer room of 519 bytes: used to the last', (0, 0, 545, 1, 513, 256, 0), decided, CHOICES, in_full, room=519)
+case('256 choices, answer room of 518 bytes: one short', (25, 0, 544, 0, 513, 256, 1),
+     Left(decided.nodes, [(32, all_right)], answers()), CHOICES, in_full, room=518)
+# One node more is loaded, one(Z), which the 545th turn would rewrite with a fresh node and the 257th choice.
+one_more = asked(times(EIGHT, 32, apply(ONE, apply(Z0))))
+past = Left(eights([n_apply(ONE, 33), n_apply(Z0)]), [(32, all_right)], answers())
+case('the 257th choice', (22, 0, 544, 0, 514, 256, 1), past, CHOICES, one_more)
+case('the 257th choice, one node left', (22, 0, 544, 0, 514, 256, 1), past, CHOICES, one_more, numbers=5150)
+case('the 257th choice, no node left: 21 comes before 22', (21, 0, 544, 0, 514, 256, 1), past, CHOICES, one_more, numbers=5140)
+
+# ---- 64 entries: symbols 1 to 6 are t1 = Z or Z, t2 = t1 or t1, .. t6 = t5 or t5;
+# symbols 7 to 12 are a1 = (Z or Z) or Z, a2 = a1 or t1, .. a6 = a5 or t5
+t_trees = [rule(choice(apply(k), apply(k))) for k in range(6)]
+a_trees = [rule(choice(choice(apply(0), apply(0)), apply(0)))] + [rule(choice(apply(6 + k), apply(k))) for k in range(1, 6)]
+ENTRIES = book([constructor()] + [operation()] * 12, t_trees + a_trees)
+
+
+def path_to(i, number_of):
+    """The decisions that lead from node 0 to node i, where node k has the children 2k + 1 and 2k + 2 and the choice number_of(k)."""
+    decisions = {}
+    while i:
+        up = (i - 1) // 2
+        decisions[number_of(up)] = LEFT if i == 2 * up + 1 else RIGHT
+        i = up
+    return decisions
+
+
+# Entries take turns, so a level of the tree is rewritten from left to right, then split from left to right: node i becomes choice i of the
+# fresh nodes 2i + 1 and 2i + 2, for i to 62. That is 63 rewrites and 63 splits, with 64 entries waiting after the last; none answers
+# before. Then 64 turns write Z, each with the six decisions of its path (18 bytes): 190 turns, 127 nodes.
+full = [n_choice(i, 2 * i + 1, 2 * i + 2) for i in range(63)] + [n_apply(0)] * 64
+paths = [path_to(i, lambda k: k) for i in range(63, 127)]
+t_done = Left(full, [], answers(*[record([0], p) for p in paths]))
+assert len(t_done.answers) == 1 + 64 * 18
+case('64 entries wait at once, then answer', (0, 0, 190, 64, 127, 63, 0), t_done, ENTRIES, asked(apply(6)))
+case('64 entries wait', (20, 0, 126, 0, 127, 63, 64), Left(full, [(63 + j, paths[j]) for j in range(64)], answers()),
+     ENTRIES, asked(apply(6)), fuel=126)
+# The 63rd split is of the entry on node 62; those split before it wait on nodes 63 to 124.
+case('64 entries in a list of 63 places: the last split', (23, 0, 125, 0, 127, 63, 63),
+     Left(full, [(62, path_to(62, lambda k: k))] + [(63 + j, paths[j]) for j in range(62)], answers()),
+     ENTRIES, asked(apply(6)), places=63)
+case('64 entries in a list of 65 places', (0, 0, 190, 64, 127, 63, 0), t_done, ENTRIES, asked(apply(6)), places=65)
+# With a6 the tree is the same up to node 31, the first of its level: choice 31 of node 63, a choice too (32, of 64 and 65), and of node 66.
+# So the nodes from 32 on have choice numbers one higher and children two higher. After 126 turns 64 entries wait, and the front one stands
+# on node 63, an open choice: its split needs a 65th place.
+crowded = [n_choice(i, 2 * i + 1, 2 * i + 2) for i in range(31)] + [n_choice(31, 63, 66)]
+crowded += [n_choice(i + 1, 2 * i + 3, 2 * i + 4) for i in range(32, 63)]
+crowded += [n_choice(32, 64, 65)] + [n_apply(0)] * 65
+shifted = [path_to(i, lambda k: k if k < 32 else k + 1) for i in range(63, 127)]
+roots = [63] + list(range(66, 129))
+crowd = Left(crowded, [(roots[j], shifted[j]) for j in range(64)], answers())
+case('the 65th entry', (23, 0, 126, 0, 129, 64, 64), crowd, ENTRIES, asked(apply(12)))
+case('the 65th entry in a list of 100 places: only 64 are used', (23, 0, 126, 0, 129, 64, 64), crowd, ENTRIES, asked(apply(12)), places=100)
+
+# ---- values: double(x) = P(x, x), so eleven doubles of Z share one value of 4,095 symbols
+Z, S, P, DOUBLE, SAME, LOOK, F51, F50 = range(8)
+VALUES = book([constructor(), constructor(1), constructor(2), operation(1), operation(1), operation(1), operation(1), operation(1)],
+              [rule(apply(P, var(0), var(0))), rule(var(0)), branch(0, rule(apply(Z)), rule(apply(Z)), rule(apply(Z))),
+               rule(times(S, 51, var(0))), rule(times(S, 50, var(0)))])
+
+
+def shared(count):
+    """The symbols of so many doubles of Z, once they are rewritten."""
+    return [Z] if count == 0 else [P] + 2 * shared(count - 1)
+
+
+def doubled(above):
+    """The nodes: so many S, eleven P of the node behind twice, Z."""
+    nodes = [n_apply(S, i + 1) for i in range(above)]
+    nodes += [n_apply(P, i + 1, i + 1) for i in range(above, above + 11)]
+    return nodes + [n_apply(Z)]
+
+
+assert len(shared(11)) == 4095
+in_bounds = asked(apply(S, times(DOUBLE, 11, apply(Z))))
+large = Left(doubled(1), [], answers(record([S] + shared(11), {})))
+# Eleven turns rewrite the doubles from above, each in its own node; the twelfth walks over the value: 4,096 arrivals, one for each symbol.
+case('a value of 4,096 symbols', (0, 0, 12, 1, 13, 0, 0), large, VALUES, in_bounds)
+case('a value of 4,097 symbols: the 4,097th arrival', (24, 0, 11, 0, 14, 0, 1), Left(doubled(2), [(0, {})], answers()),
+     VALUES, asked(times(S, 2, times(DOUBLE, 11, apply(Z)))))
+# The record: 2 for its length, 2 for the count, 8,192 for the symbols; and the version byte.
+assert len(large.answers) == 8197
+case('a value of 4,096 symbols, answer room of 8,197 bytes: used to the last', (0, 0, 12, 1, 13, 0, 0), large, VALUES, in_bounds, room=8197)
+case('a value of 4,096 symbols, answer room of 8,196 bytes: one short', (25, 0, 11, 0, 13, 0, 1), Left(large.nodes, [(0, {})], answers()),
+     VALUES, in_bounds, room=8196)
+
+
+# Ten times S of double, on S of Z, is a value of 2, 6, 14, 30, .. 4,094 symbols, so in P of it and x the node of x is the 4,096th arrival.
+def beside(x):
+    """The nodes once the doubles are rewritten: 0 P, 1 to 21 S and P in turn, 22 Z, 23 as given, 24 Z."""
+    nodes = [n_apply(P, 1, 23)]
+    for i in range(1, 21, 2):
+        nodes += [n_apply(S, i + 1), n_apply(P, i + 2, i + 2)]
+    return nodes + [n_apply(S, 22), n_apply(Z), x, n_apply(Z)]
+
+
+def alternating(count):
+    """The symbols of so many times S of double on S of Z."""
+    return [S, Z] if count == 0 else [S, P] + 2 * alternating(count - 1)
+
+
+def question_beside(f):
+    e = apply(S, apply(Z))
+    for _ in range(10):
+        e = apply(S, apply(DOUBLE, e))
+    return asked(apply(P, e, apply(f, apply(Z))))
+
+
+assert len(alternating(10)) == 4094
+# SAME is one variable: it is rewritten where it is met, in the eleventh turn; its forward leads to Z, again the 4,096th arrival.
+case('a step at the 4,096th arrival', (0, 0, 12, 1, 25, 0, 0),
+     Left(beside(n_forward(24)), [], answers(record([P] + alternating(10) + [Z], {}))), VALUES, question_beside(SAME))
+# LOOK branches on its argument, whose node is one arrival more.
+case('the 4,097th arrival in a branch', (24, 0, 10, 0, 25, 0, 1), Left(beside(n_apply(LOOK, 24)), [(0, {})], answers()),
+     VALUES, question_beside(LOOK))
+
+
+# ---- depth: F51(x) is 51 times S of x, and F50 has 50, so five F51 of Z are Z 255 arrows down
+def chained(nodes, at, lengths):
+    """Turns the nodes from `at` on into chains of S of these lengths, each from its own node over fresh ones to the next node."""
+    for i, length in enumerate(lengths):
+        fresh = len(nodes)
+        way = [at + i] + list(range(fresh, fresh + length - 1)) + [at + i + 1]
+        nodes += [None] * (length - 1)
+        for j in range(length):
+            nodes[way[j]] = n_apply(S, way[j + 1])
+    return nodes
+
+
+# Five turns rewrite, each with 50 fresh nodes; the sixth writes the value of 256 symbols.
+case('depth 255: Z is 255 arrows down', (0, 0, 6, 1, 256, 0, 0),
+     Left(chained([None] * 5 + [n_apply(Z)], 0, [51] * 5), [], answers(record([S] * 255 + [Z], {}))),
+     VALUES, asked(times(F51, 5, apply(Z))))
+case('depth 256: an arrival 256 arrows down', (24, 0, 5, 0, 257, 0, 1),
+     Left(chained([n_apply(S, 1)] + [None] * 5 + [n_apply(Z)], 1, [51] * 5), [(0, {})], answers()),
+     VALUES, asked(apply(S, times(F51, 5, apply(Z)))))
+# SAME is one variable: its node, 255 arrows down, becomes a forward in the sixth turn, and the arrow out of it does not count.
+case('depth 255 and a forward: its arrow does not count', (0, 0, 7, 1, 257, 0, 0),
+     Left(chained([None] * 5 + [n_forward(6), n_apply(Z)], 0, [51] * 5), [], answers(record([S] * 255 + [Z], {}))),
+     VALUES, asked(times(F51, 5, apply(SAME, apply(Z)))))
+# LOOK branches on its argument and gives Z. Four F51 and an F50 put it 254 arrows down: the branch variable's node is 255 down.
+case('depth 255 in a branch', (0, 0, 7, 1, 256, 0, 0),
+     Left(chained([None] * 5 + [n_apply(Z), n_apply(Z)], 0, [51] * 4 + [50]), [], answers(record([S] * 254 + [Z], {}))),
+     VALUES, asked(times(F51, 4, apply(F50, apply(LOOK, apply(Z))))))
+case('depth 256 in a branch', (24, 0, 5, 0, 257, 0, 1),
+     Left(chained([None] * 5 + [n_apply(LOOK, 6), n_apply(Z)], 0, [51] * 5), [(0, {})], answers()),
+     VALUES, asked(times(F51, 5, apply(LOOK, apply(Z)))))
+
+# ---- 3,200 nodes: grow(S m, x) = grow(m, 63 times S of x), with 63 fresh nodes; grow(Z, x) = 61 times S of Z, with 61 fresh nodes
+GROW = 2
+GROWING = book([constructor(), constructor(1), operation(2)],
+               [branch(0, rule(times(S, 61, apply(Z))), rule(apply(GROW, var(2), times(S, 63, var(1)))))])
+
+
+def grown(second):
+    """The nodes after 49 turns: 0 grow of (1, 51), 1 to 49 S, 50 Z, from 51 on the second argument; then 63 S for each turn."""
+    nodes = [None] + [n_apply(S, i + 1) for i in range(1, 50)] + [n_apply(Z)] + second
+    x = 51
+    for _ in range(49):
+        fresh = len(nodes)
+        nodes += [n_apply(S, fresh + j + 1) for j in range(62)] + [n_apply(S, x)]
+        x = fresh
+    nodes[0] = n_apply(GROW, 50, x)
+    return nodes
+
+
+# 52 are loaded, 49 turns take 63 each: 3,139; the fiftieth takes 61: 3,200; the 51st writes the value of 62 symbols.
+last = grown([n_apply(Z)])
+assert len(last) == 3139
+last[0] = n_apply(S, 3139)
+last += [n_apply(S, 3139 + j + 1) for j in range(60)] + [n_apply(Z)]
+assert len(last) == 3200
+all_nodes = Left(last, [], answers(record([S] * 61 + [Z], {})))
+fits = asked(apply(GROW, times(S, 49, apply(Z)), apply(Z)))
+case('3,200 nodes: used to the last', (0, 0, 51, 1, 3200, 0, 0), all_nodes, GROWING, fits)
+# One node more is loaded, so the fiftieth turn needs the 3,201st.
+over = Left(grown([n_apply(S, 52), n_apply(Z)]), [(0, {})], answers())
+too_many = asked(apply(GROW, times(S, 49, apply(Z)), apply(S, apply(Z))))
+case('the 3,201st node', (21, 0, 49, 0, 3140, 0, 1), over, GROWING, too_many)
+case('3,200 nodes, 32,010 numbers lent: the last ten stay as they were', (0, 0, 51, 1, 3200, 0, 0), all_nodes, GROWING, fits, numbers=32010)
+case('the 3,201st node, 32,010 numbers lent: only 3,200 nodes are used', (21, 0, 49, 0, 3140, 0, 1), over, GROWING, too_many, numbers=32010)
+case('3,200 nodes, 31,999 numbers lent: 3,199 whole nodes', (21, 0, 49, 0, 3139, 0, 1),
+     Left(grown([n_apply(Z)]), [(0, {})], answers()), GROWING, fits, numbers=31999)
+
+# ---- the archive's example, with the fuel that its file has (README.md shows its six answers)
+dolly = open(os.path.join(repository, 'examples', 'corn-dollies'), 'rb').read()
+end = 2 + int.from_bytes(dolly[:2], 'big')
+dolly_book = dolly[2:end]
+dolly_question = dolly[end + 2:-4]
+assert int.from_bytes(dolly[end:end + 2], 'big') == len(dolly_question) and int.from_bytes(dolly[-4:], 'big') == 40
+case('the archive\'s example: what stands above corn dollies', (20, 0, 40, 6, 25, 9, 1), 'archive', dolly_book, dolly_question, fuel=40)
+case('the archive\'s example, list of 100 places', (20, 0, 40, 6, 25, 9, 1), 'archive', dolly_book, dolly_question, fuel=40, places=100)
+
+
+# ---- the files
+
+def checksum(numbers):
+    c = 0
+    for v in numbers:
+        c = (c * 31 + v) % 4294967296
+    return c
+
+
+def entry(root, decisions):
+    return [root] + [decisions.get(c, 0) for c in range(256)]
+
+
+def whole(used, mark, length):
+    return used + [mark] * (length - len(used))
+
+
+def by_hand(result, left, places):
+    """The line behind the label, from the hand-made result and memory."""
+    nodes, entries, written = [], [], b''
+    if left:
+        nodes = [n for one in left.nodes for n in one]
+        entries = [entry(*e) for e in left.waiting]
+        entries += [entry(0, {})] * (min(places, 64) - len(entries))
+        written = left.answers
+        counts = (len(left.nodes), len(left.waiting))
+        assert counts == (result[4], result[6]), (counts, result)
+    entries += [entry(7, {})] * (PLACES - len(entries))
+    sums = (checksum(whole(nodes, 48879, NUMBERS)), checksum(n for e in entries for n in e), checksum(whole(list(written), 170, BYTES)))
+    return '{} {} {} {} {} {} {}; nodes {} list {} bytes {}'.format(*result, *sums)
+
+
+table = b''
+for label, result, left, b, q, fuel, numbers, places, room in rows:
+    assert numbers <= NUMBERS and places <= PLACES and room <= BYTES
+    table += part(label.encode()) + two(numbers) + two(places) + two(room) + fuel.to_bytes(4, 'big') + part(b) + part(q)
+assert len(table) <= 65536
+
+target = os.environ.get('CARGO_TARGET_DIR') or os.path.join(os.environ.get('TMPDIR', '/tmp'), 'independent-target')
+subprocess.run(['cargo', 'build', '--quiet', '--release', '--offline'], cwd=os.path.join(repository, 'independent'), check=True,
+               env=dict(os.environ, CARGO_TARGET_DIR=target))
+printed = subprocess.run([os.path.join(target, 'release', 'independent'), 'edges'], input=table, stdout=subprocess.PIPE, check=True).stdout
+lines = printed.decode().splitlines()
+assert len(lines) == len(rows)
+wrong = 0
+for line, (label, result, left, b, q, fuel, numbers, places, room) in zip(lines, rows):
+    if left == 'archive':
+        same = line.startswith('{}: {} {} {} {} {} {} {};'.format(label, *result))
+    else:
+        same = line == label + ': ' + by_hand(result, left, places)
+    if not same:
+        wrong += 1
+        print('by hand  ', label, result if left == 'archive' else by_hand(result, left, places))
+        print('evaluator', line)
+if wrong:
+    sys.exit(f'{wrong} rows differ; nothing is written')
+os.makedirs(top, exist_ok=True)
+with open(os.path.join(top, 'stdin'), 'wb') as f:
+    f.write(table)
+with open(os.path.join(top, 'stdout'), 'wb') as f:
+    f.write(printed)
+print(len(rows), 'rows,', len(table), 'bytes')
