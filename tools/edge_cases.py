@@ -2,14 +2,15 @@
 """Writes crates/edges/stdin and stdout: a table of runs at the edges of document 01's sizes, and what each gives.
 
 A row of stdin: a label (two-byte length, text), how many node numbers, list places and answer bytes are lent (two bytes each), the fuel
-(four bytes), a book and a question (two-byte length, bytes). A line of stdout: the label, the seven result numbers, and a checksum of all
-the node numbers, all the list places and all the answer bytes that the program has, lent or not: 32,010, 100 and 16,400. Before a run each
+(four bytes), a book and a question (two-byte length, bytes). Its lines of stdout: first the label, the seven result numbers, and a checksum of
+all the node numbers, all the list places and all the answer bytes that the program has, lent or not: 32,010, 100 and 16,400. Before a run each
 number is 48,879, each place has root 7 and all open, each byte is 170. A checksum begins at 0 and becomes (c * 31 + v) % 2^32 for each
-number v; an entry's are its root and its 256 decisions (0 open, 1 left, 2 right).
+number v; an entry's are its root and its 256 decisions (0 open, 1 left, 2 right). Then a line for each answer as `expand` prints it: `A`, the
+symbols, `|`, the decision numbers.
 
 stdout is made by the independent evaluator (independent/, subcommand `edges`), never by the program. Beside each row stands what was worked
-out by hand from document 01: the seven numbers, and what the used part of each memory holds. The script works these out to checksums and
-asserts that the evaluator's lines are the same.
+out by hand from document 01: the seven numbers, and what the used part of each memory holds, the answers among it. The script works these out
+to checksums and lines and asserts that the evaluator's lines are the same.
 
 usage: tools/edge_cases.py            (builds the evaluator with cargo, writes both files)
 """
@@ -26,14 +27,14 @@ rows = []
 
 
 class Left:
-    """What a run leaves: nodes (ten numbers each), the waiting entries (root, {choice: side}), the answer bytes."""
+    """What a run leaves: nodes (ten numbers each), the waiting entries (root, {choice: side}), the answers. None for what is not known."""
 
     def __init__(self, nodes, waiting, answers):
         self.nodes, self.waiting, self.answers = nodes, waiting, answers
 
 
 def case(label, result, left, book, question, fuel=1000, numbers=32000, places=64, room=16384):
-    """A row; `left` is None for memory that is untouched, and 'archive' where only the seven numbers are known by hand."""
+    """A row; `left` is None for memory that is untouched."""
     rows.append((label, result, left, bytes(book), bytes(question), fuel, numbers, places, room))
 
 
@@ -125,14 +126,21 @@ def n_forward(to):
 LEFT, RIGHT = 1, 2
 
 
+class Answers:
+    """The answer bytes, and the line of each answer."""
+
+    def __init__(self, written, lines):
+        self.written, self.lines = written, lines
+
+
 def record(symbols, decisions):
-    body = two(len(symbols)) + b''.join(two(s) for s in symbols)
-    body += b''.join(two(2 * c + (decisions[c] == RIGHT)) for c in sorted(decisions))
-    return two(len(body)) + body
+    numbers = [2 * c + (decisions[c] == RIGHT) for c in sorted(decisions)]
+    body = two(len(symbols)) + b''.join(two(n) for n in symbols + numbers)
+    return two(len(body)) + body, ' '.join(['A'] + [str(n) for n in symbols] + ['|'] + [str(n) for n in numbers])
 
 
 def answers(*records):
-    return b'\x01' + b''.join(records)
+    return Answers(b'\x01' + b''.join(written for written, _ in records), [line for _, line in records])
 
 
 # ---- the small book and D (dup of False or True), with what is left after each of its ten turns
@@ -180,7 +188,7 @@ def d_after(turns):
 
 
 d_done = (0, 0, 10, 2, 8, 1, 0)
-assert len(d_after(10).answers) == 17
+assert len(d_after(10).answers.written) == 17
 
 # ---- fuel: D takes ten turns; the turn that is not made is not counted
 case('D, fuel 10', d_done, d_after(10), SMALL, D, fuel=10)
@@ -262,7 +270,7 @@ decided = Left(eights([n_apply(Z0)]), [], answers(record([Z0], all_right)))
 # the entry waits on Z with every choice decided right, and the 545th turn writes it. Nodes: 33 loaded, 15 fresh for each eight: 513.
 case('256 choices, all decided', (0, 0, 545, 1, 513, 256, 0), decided, CHOICES, in_full)
 # The record: 2 for its length, 2 for the count, 2 for the symbol, 512 for the decisions; and the version byte.
-assert len(decided.answers) == 519
+assert len(decided.answers.written) == 519
 case('256 choices, answer room of 519 bytes: used to the last', (0, 0, 545, 1, 513, 256, 0), decided, CHOICES, in_full, room=519)
 case('256 choices, answer room of 518 bytes: one short', (25, 0, 544, 0, 513, 256, 1),
      Left(decided.nodes, [(32, all_right)], answers()), CHOICES, in_full, room=518)
@@ -296,7 +304,7 @@ def path_to(i, number_of):
 full = [n_choice(i, 2 * i + 1, 2 * i + 2) for i in range(63)] + [n_apply(0)] * 64
 paths = [path_to(i, lambda k: k) for i in range(63, 127)]
 t_done = Left(full, [], answers(*[record([0], p) for p in paths]))
-assert len(t_done.answers) == 1 + 64 * 18
+assert len(t_done.answers.written) == 1 + 64 * 18
 case('64 entries wait at once, then answer', (0, 0, 190, 64, 127, 63, 0), t_done, ENTRIES, asked(apply(6)))
 case('64 entries wait', (20, 0, 126, 0, 127, 63, 64), Left(full, [(63 + j, paths[j]) for j in range(64)], answers()),
      ENTRIES, asked(apply(6)), fuel=126)
@@ -344,7 +352,7 @@ case('a value of 4,096 symbols', (0, 0, 12, 1, 13, 0, 0), large, VALUES, in_boun
 case('a value of 4,097 symbols: the 4,097th arrival', (24, 0, 11, 0, 14, 0, 1), Left(doubled(2), [(0, {})], answers()),
      VALUES, asked(times(S, 2, times(DOUBLE, 11, apply(Z)))))
 # The record: 2 for its length, 2 for the count, 8,192 for the symbols; and the version byte.
-assert len(large.answers) == 8197
+assert len(large.answers.written) == 8197
 case('a value of 4,096 symbols, answer room of 8,197 bytes: used to the last', (0, 0, 12, 1, 13, 0, 0), large, VALUES, in_bounds, room=8197)
 case('a value of 4,096 symbols, answer room of 8,196 bytes: one short', (25, 0, 11, 0, 13, 0, 1), Left(large.nodes, [(0, {})], answers()),
      VALUES, in_bounds, room=8196)
@@ -447,14 +455,18 @@ case('the 3,201st node, 32,010 numbers lent: only 3,200 nodes are used', (21, 0,
 case('3,200 nodes, 31,999 numbers lent: 3,199 whole nodes', (21, 0, 49, 0, 3139, 0, 1),
      Left(grown([n_apply(Z)]), [(0, {})], answers()), GROWING, fits, numbers=31999)
 
-# ---- the archive's example, with the fuel that its file has (README.md shows its six answers)
+# ---- the archive's example, with the fuel that its file has; README.md says what its six answers mean
 dolly = open(os.path.join(repository, 'examples', 'corn-dollies'), 'rb').read()
 end = 2 + int.from_bytes(dolly[:2], 'big')
 dolly_book = dolly[2:end]
 dolly_question = dolly[end + 2:-4]
 assert int.from_bytes(dolly[end:end + 2], 'big') == len(dolly_question) and int.from_bytes(dolly[-4:], 'big') == 40
-case('the archive\'s example: what stands above corn dollies', (20, 0, 40, 6, 25, 9, 1), 'archive', dolly_book, dolly_question, fuel=40)
-case('the archive\'s example, list of 100 places', (20, 0, 40, 6, 25, 9, 1), 'archive', dolly_book, dolly_question, fuel=40, places=100)
+above = [record([2], {0: LEFT, 1: LEFT}), record([3], {0: RIGHT, 2: LEFT}), record([5], {0: RIGHT, 2: RIGHT, 4: LEFT}),
+         record([4], {0: LEFT, 1: RIGHT, 3: LEFT, 5: LEFT}), record([1], {0: LEFT, 1: RIGHT, 3: RIGHT, 6: LEFT}),
+         record([2], {0: LEFT, 1: RIGHT, 3: RIGHT, 6: RIGHT, 7: LEFT})]
+example = Left(None, None, answers(*above))
+case('the archive\'s example: what stands above corn dollies', (20, 0, 40, 6, 25, 9, 1), example, dolly_book, dolly_question, fuel=40)
+case('the archive\'s example, list of 100 places', (20, 0, 40, 6, 25, 9, 1), example, dolly_book, dolly_question, fuel=40, places=100)
 
 
 # ---- the files
@@ -474,19 +486,30 @@ def whole(used, mark, length):
     return used + [mark] * (length - len(used))
 
 
-def by_hand(result, left, places):
-    """The line behind the label, from the hand-made result and memory."""
-    nodes, entries, written = [], [], b''
+def by_hand(label, result, left, places):
+    """The lines of a row, from the hand-made result and memory; what is not known is a `?`."""
+    nodes, entries, written, shown = [], [], b'', []
+    sums = ['?', '?', '?']
     if left:
+        written, shown = left.answers.written, left.answers.lines
+        assert len(shown) == result[3], (shown, result)
+    if left and left.nodes:
         nodes = [n for one in left.nodes for n in one]
         entries = [entry(*e) for e in left.waiting]
         entries += [entry(0, {})] * (min(places, 64) - len(entries))
-        written = left.answers
         counts = (len(left.nodes), len(left.waiting))
         assert counts == (result[4], result[6]), (counts, result)
-    entries += [entry(7, {})] * (PLACES - len(entries))
-    sums = (checksum(whole(nodes, 48879, NUMBERS)), checksum(n for e in entries for n in e), checksum(whole(list(written), 170, BYTES)))
-    return '{} {} {} {} {} {} {}; nodes {} list {} bytes {}'.format(*result, *sums)
+    if not left or left.nodes:
+        entries += [entry(7, {})] * (PLACES - len(entries))
+        sums[:2] = checksum(whole(nodes, 48879, NUMBERS)), checksum(n for e in entries for n in e)
+    sums[2] = checksum(whole(list(written), 170, BYTES))
+    return ['{}: {} {} {} {} {} {} {}; nodes {} list {} bytes {}'.format(label, *result, *sums)] + shown
+
+
+def as_known(line, hand):
+    """The evaluator's line, with a `?` for each word that is not known by hand."""
+    words, known = line.split(' '), hand.split(' ')
+    return ' '.join('?' if k == '?' else w for w, k in zip(words, known)) if len(words) == len(known) else line
 
 
 table = b''
@@ -500,17 +523,15 @@ subprocess.run(['cargo', 'build', '--quiet', '--release', '--offline'], cwd=os.p
                env=dict(os.environ, CARGO_TARGET_DIR=target))
 printed = subprocess.run([os.path.join(target, 'release', 'independent'), 'edges'], input=table, stdout=subprocess.PIPE, check=True).stdout
 lines = printed.decode().splitlines()
-assert len(lines) == len(rows)
 wrong = 0
-for line, (label, result, left, b, q, fuel, numbers, places, room) in zip(lines, rows):
-    if left == 'archive':
-        same = line.startswith('{}: {} {} {} {} {} {} {};'.format(label, *result))
-    else:
-        same = line == label + ': ' + by_hand(result, left, places)
-    if not same:
+for label, result, left, b, q, fuel, numbers, places, room in rows:
+    hand = by_hand(label, result, left, places)
+    got, lines = lines[:len(hand)], lines[len(hand):]
+    if [as_known(line, h) for line, h in zip(got, hand)] != hand:
         wrong += 1
-        print('by hand  ', label, result if left == 'archive' else by_hand(result, left, places))
-        print('evaluator', line)
+        print('by hand  ', *hand, sep='\n')
+        print('evaluator', *got, sep='\n')
+assert not lines, lines
 if wrong:
     sys.exit(f'{wrong} rows differ; nothing is written')
 os.makedirs(top, exist_ok=True)

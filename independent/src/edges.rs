@@ -1,8 +1,9 @@
 //! Program `edges`: a table of runs at the edges of the sizes, each over memory that is longer than what is lent
-//! of it, and a line for each with the seven numbers and a checksum of the whole of each memory.
+//! of it. For each a line with the seven numbers and a checksum of the whole of each memory, then a line for each answer.
 //! `tools/edge_cases.py` makes the table and says what it holds.
 
 use crate::evaluator::{evaluate, Decision, Entry, Memory, Outcome};
+use crate::expand::answer_lines;
 use crate::seen::Seen;
 
 /// How long each memory is, lent or not, and what stands in it before a run; a list place has a root and all open.
@@ -80,7 +81,8 @@ fn whole<T: Clone>(lent: Vec<T>, mark: T, length: usize) -> Vec<T> {
     all
 }
 
-fn line(row: &Row) -> String {
+/// The lines of a row.
+fn lines(row: &Row) -> String {
     assert!(row.nodes <= NODE_NUMBERS && row.places <= PLACES && row.answer_bytes <= ANSWER_BYTES);
     let place = Entry::new(ROOT_MARK);
     let mut memory = Memory {
@@ -90,12 +92,14 @@ fn line(row: &Row) -> String {
     };
     let outcome = evaluate(row.book, row.question, row.fuel, &mut memory, &mut Seen::default());
     let Outcome { number, place: at, turns, answers, nodes, choices, waiting } = outcome;
+    let mut answer_text = String::new();
+    answer_lines(&memory.answers, answers, &mut answer_text);
     let of_nodes = checksum(whole(memory.nodes, NODE_MARK, NODE_NUMBERS).into_iter().map(u64::from));
     let of_list = checksum(whole(memory.list, place, PLACES).iter().flat_map(entry_numbers));
     let of_bytes = checksum(whole(memory.answers, ANSWER_MARK, ANSWER_BYTES).into_iter().map(u64::from));
     let label = String::from_utf8_lossy(row.label);
     let result = format!("{number} {at} {turns} {answers} {nodes} {choices} {waiting}");
-    format!("{label}: {result}; nodes {of_nodes} list {of_list} bytes {of_bytes}\n")
+    format!("{label}: {result}; nodes {of_nodes} list {of_list} bytes {of_bytes}\n{answer_text}")
 }
 
 /// The lines of a whole table; None where it is cut short.
@@ -103,7 +107,7 @@ pub fn edges(table: &[u8]) -> Option<String> {
     let mut rest = table;
     let mut text = String::new();
     while !rest.is_empty() {
-        text.push_str(&line(&row(&mut rest)?));
+        text.push_str(&lines(&row(&mut rest)?));
     }
     Some(text)
 }

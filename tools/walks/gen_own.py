@@ -1,4 +1,4 @@
-# Writes the walk of `run_owned` (crates/evaluator/proofs/run_owned/Proof.antt); `rt fmt` comes after. The text around it: own_head.txt, own_tail.txt.
+# Writes the walk of `run_owned` (crates/run/proofs/whole/run_owned/Proof.antt); `rt fmt` comes after. The text around it: own_head.txt, own_tail.txt.
 import os
 from ctx import *
 
@@ -7,12 +7,12 @@ HEAD = open(os.path.join(HERE, 'own_head.txt')).read()
 TAIL = open(os.path.join(HERE, 'own_tail.txt')).read()
 N = 16
 ENDS = ['Book', 'κ₀', 'Question', 'Nodes', 'κ₁', 'Answers', 'κ₂']
-MAKES = 'all-made 𝓤 H A W'
+MAKES = 'all-made 𝓤 H A W mostEntries'
 # ---- exits
 c = Ctx(ENDS, '      ')
 c.nothing(); c.join('κ₂', 'true', 't'); c.join('κ₁', 't', 't'); c.join('κ₀', 't', 't'); c.frame(); c.nl()
 c.nothing(); c.owned('u32 (Is u32) (uint-makes 𝓤 H A W w32) fuel _ (refl, gf)', 'f'); c.join('f', 'true', 'o', True); c.join('Answers', 'o', 'o', True)
-c.owned('Entries (Is Entries) (%s) ls _ gl' % MAKES, 'f'); c.join('f', 'o', 'o', True); c.nl()
+c.owned('(Entries mostEntries) (Is (Entries mostEntries)) (%s) ls _ gl' % MAKES, 'f'); c.join('f', 'o', 'o', True); c.nl()
 for n in ['Nodes', 'Question', 'Book']: c.join(n, 'o', 'o', True)
 c.frame()
 c.w('owned ! P.the-row (Is P.the-row) (LL.makes P.the-type P′.the-plain 𝓤 H A) (owning r vs) _ go $ done !'); c.nl()
@@ -33,8 +33,8 @@ c.w(' '.join('alloc1 ! (λ %s.' % loc(i) for i in range(N)) + ' alloc0 ! $ param
 opens = N
 def passes(i, wt): c.w('pass1 ! (init ! %d refl %s) $' % (c.at('_%d' % i), wt))
 sl = lambda g: '(tt, (tt, (record { fits = %s .0 }, tt)))' % g
-passes(1, sl('gb')); passes(2, sl('gq')); passes(3, sl('gm')); c.nl(); passes(4, '(all-lawful 𝓤 H A W .typed ls _ gl .0)'); passes(5, sl('ga')); passes(6, '(tt, record { fits = gf })'); c.w('pass0 ! $'); c.nl()
-assign(c, 'of-opd ! ' + opd_look(c, 4), 7, '(all-lawful 𝓤 H A W .typed ls _ gl .0)'); c.nl()
+passes(1, sl('gb')); passes(2, sl('gq')); passes(3, sl('gm')); c.nl(); passes(4, '(all-lawful 𝓤 H A W mostEntries .typed ls _ gl .0)'); passes(5, sl('ga')); passes(6, '(tt, record { fits = gf })'); c.w('pass0 ! $'); c.nl()
+assign(c, 'of-opd ! ' + opd_look(c, 4), 7, '(all-lawful 𝓤 H A W mostEntries .typed ls _ gl .0)'); c.nl()
 assign(c, addr_behind(c, 3), 9, '(tt, tt)'); c.nl()
 assign(c, slice_of(c, 9, 3), 10, sl('gm')); c.nl()
 assign(c, 'addr ! (from ! (stop !))', 11, '(tt, tt)')
@@ -56,7 +56,7 @@ c.w('await ! tt $ pick ! (λ δ.'); opens += 1; c.split('nn', 'N', 'lentN'); c.n
 c.use(2, ['Answers', 'κ₂'], 'later (some (λ (δ : GName). ‵ (SentAnswers ν′ δ) ⊛ ‵ (LentAgain u8 κ₂ (ν′ ∷ []) q₂ γ₂ b₂ o₂ δ bs)))', 'lends-again u8 κ₂ (ν′ ∷ []) q₂ γ₂ b₂ o₂ 𝓤 H A W (named 2) (named 3) bs', ['nn'])
 c.w('await ! tt $ pick ! (λ δ′.'); opens += 1; c.split('nn', 'A', 'lentA'); c.nl()
 L = loc(7)
-c.use(1, ['_7'], '‵ (Lies ls %s)' % L, 'lies-apart 𝓤 H A W ls %s gl' % L, ['cells'])
+c.use(1, ['_7'], '‵ (Lies ls %s)' % L, 'lies-apart 𝓤 H A W mostEntries ls %s gl' % L, ['cells'])
 c.use(1, ['cells'], 'later (some (λ (ε : GName). ‵ (SentList %s υ ε) ⊛ ‵ (flent (υ ∷ []) (Held T.the-row (length ls) %s 0 ε))))' % (L, L), 'lends-slice 𝓤 H A W T.the-row (named 2) (υ ∷ []) ls %s 0 (room-for (length ls) long)' % L, ['nn'])
 c.w('await ! tt $ pick ! (λ ε.'); opens += 1; c.split('nn', 'L', 'lentL'); c.nl()
 c.join('L', 'A', 'o'); c.join('N', 'o', 'o'); c.join('Question2', 'o', 'o'); c.join('Book2', 'o', 'o'); c.join('υ', 'ν′', 't'); c.join('ν', 't', 't'); c.join('κ₀', 't', 't')
@@ -89,11 +89,11 @@ c.use(3, ['dead', 'lentA', 'finA'], 'later (‵ (Answers (us .1 .1 .1 .1 .0)) �
 c.move('υ'); c.w('lft-end ! tt $'); c.g[0] = 'dead'
 c.w('rewrite ! %d (λ (n : ℕ). ‵ (flent (υ ∷ []) (Held T.the-row n %s 0 ε))) long refl $' % (c.at('lentL'), L)); c.nl()
 V = '(us .1 .1 .1 .0)'
-c.use(3, ['dead', 'lentL', 'finL'], 'later (‵ (Back %s %s))' % (V, L), 'slice-back 𝓤 H A W T.the-row (υ ∷ []) ε %s mostEntries %s 0' % (V, L), ['lies']); c.w('await ! tt $'); c.nl()
-c.use(1, ['lies'], 'given (Is Entries %s (machines %s)) (‵ (Whole %s %s))' % (V, V, V, L), 'lies-whole 𝓤 H A W %s %s' % (V, L), ['_7']); c.w('learn ! (λ gv.'); opens += 1; c.nl()
+c.use(3, ['dead', 'lentL', 'finL'], 'later (‵ (Back mostEntries %s %s))' % (V, L), 'slice-back 𝓤 H A W T.the-row (υ ∷ []) ε %s mostEntries %s 0' % (V, L), ['lies']); c.w('await ! tt $'); c.nl()
+c.use(1, ['lies'], 'given (Is (Entries mostEntries) %s (machines %s)) (‵ (Whole mostEntries %s %s))' % (V, V, V, L), 'lies-whole 𝓤 H A W mostEntries %s %s' % (V, L), ['_7']); c.w('learn ! (λ gv.'); opens += 1; c.nl()
 c.keep('Book', 'κ₀', 'Question', 'Nodes', 'κ₁', 'Answers', 'κ₂', *locals_(N)); c.nl()
 c.w('let go = made r %s (subst (Is O.the-row r) same is) gv in' % V); c.nl()
-assign(c, 'of-opd ! ' + opd_look(c, 7), 15, '(all-lawful 𝓤 H A W .typed %s _ gv .0)' % V); c.nl()
+assign(c, 'of-opd ! ' + opd_look(c, 7), 15, '(all-lawful 𝓤 H A W mostEntries .typed %s _ gv .0)' % V); c.nl()
 assign(c, 'agg ! ' + opds([opd_look(c, 8), opd_look(c, 15)]), 0, '(LL.lawful P.the-type P′.the-laws 𝓤 H A W .typed (owning r %s) _ go .0)' % V); c.nl()
 c.w('returns ! (look ! %d refl) $' % c.at('_0')); c.w(' '.join('forget ! %d refl $' % c.at('_%d' % i) for i in reversed(range(N)))); c.nl()
 for i in range(N):
@@ -104,5 +104,5 @@ assert c.g == ENDS, c.g
 c.w('by ! (exits r (us .1 .1 .0) %s (us .1 .1 .1 .1 .0) go lu lc said)' % V + ')' * opens); c.nl()
 WALK = '\n'.join(c.lines)
 t = HEAD.replace('@EXITS@', EXITS).replace('@GOES@', GOES).replace('@WALK@', WALK) + TAIL
-open(os.path.join(HERE, '../../crates/evaluator/proofs/run_owned/Proof.antt'), 'w').write(t)
+open(os.path.join(HERE, '../../crates/run/proofs/whole/run_owned/Proof.antt'), 'w').write(t)
 print(t.count('\n'), 'lines')

@@ -18,3 +18,8 @@ unfoldable pub treeAt : Trees → ℕ → Tree
 treeAt noTrees k = exempt
 treeAt (moreTrees t ts) zero = t
 treeAt (moreTrees t ts) (suc k) = treeAt ts k
+
+-- how many trees stand in a row
+abbrev pub many : Trees → ℕ
+many noTrees = 0
+many (moreTrees t ts) = suc (many ts)

@@ -1,17 +1,19 @@
 // Reads a table of runs from standard input and makes each over memory that is longer than what is lent of it. For each it prints the
-// label, the seven numbers of the result, and a checksum of all the node numbers, list places and answer bytes, lent or not.
-// tools/edge_cases.py makes the table and says what document 01 has for each row.
+// label, the seven numbers of the result, and a checksum of all the node numbers, list places and answer bytes, lent or not; then a line for
+// each answer. tools/edge_cases.py makes the table and says what document 01 has for each row.
 ghost use Prim.Native.Nat.{_+_, _<_, _≤_};
 ghost use lib.ListN.{length};
-use evaluator::run_owned;
 use limits::Decisions;
 use limits::Entry;
 use limits::Limits;
 use limits::Side;
+use lines::show_answers;
+use lines::show_item;
+use lines::show_result;
 use reading::number;
 use reading::part_of;
 use run::Outcome;
-use run::run_by_value;
+use run::run;
 
 // How long each memory is.
 const NUMBERS: usize = 32010;
@@ -67,11 +69,22 @@ fn show_run<'a>(given: &'a [u8], book: &'a [u8], question: &'a [u8]) {
     let room = at_most(number(given, 4), BYTES);
     let fuel = (number(given, 6) * 65536 + number(given, 8)) as u32;
     io::write_all(1, b":");
-    if places == Limits::ENTRIES {
-        show_owned(book, question, numbers, room, fuel);
-    } else {
-        show_by_value(book, question, numbers, places, room, fuel);
-    }
+    let mut nodes = [48879u16; NUMBERS];
+    let mut bytes = [170u8; BYTES];
+    let list = [Entry::of(7, Limits::all_open()); PLACES];
+    let r = run_first(
+        book,
+        question,
+        &mut nodes[0..numbers],
+        list,
+        places,
+        &mut bytes[0..room],
+        fuel,
+    );
+    let outcome = r.outcome;
+    show_result(outcome);
+    let after = r.list;
+    show_left(&nodes, after, &bytes, outcome.answers);
 }
 
 fn at_most(n: usize, most: usize) -> usize
@@ -80,71 +93,30 @@ fn at_most(n: usize, most: usize) -> usize
     if most < n { most } else { n }
 }
 
-// With 64 places: the first 64 of the list go in by value, and come out.
-fn show_owned<'a>(book: &'a [u8], question: &'a [u8], numbers: usize, room: usize, fuel: u32)
-    requires { ⌜ (numbers ≤ 32010) × (room ≤ 16400) ⌝ }
-{
-    let mut nodes = [48879u16; NUMBERS];
-    let mut bytes = [170u8; BYTES];
-    let list = [marked(); Limits::ENTRIES];
-    let r = run_owned(
-        book,
-        question,
-        &mut nodes[0..numbers],
-        list,
-        &mut bytes[0..room],
-        fuel,
-    );
-    let outcome = r.outcome;
-    let entries = r.list;
-    show_result(outcome);
-    show_sums(&nodes, laid(entries, Limits::ENTRIES), &bytes);
+// A run whose list is held by value, and lent as far as it is to be used.
+struct Listed {
+    outcome: Outcome,
+    list: [Entry; PLACES],
 }
 
-// With another number of places: what is to stand in the first of them is handed out.
-fn show_by_value<'a>(
+// The run over the first so many places of a list: its result, and the whole list after it.
+fn run_first<'a>(
     book: &'a [u8],
     question: &'a [u8],
-    numbers: usize,
+    nodes: &mut [u16],
+    list: [Entry; PLACES],
     places: usize,
-    room: usize,
+    answers: &mut [u8],
     fuel: u32,
-)
-    requires { ⌜ (numbers ≤ 32010) × (room ≤ 16400) ⌝ }
+) -> Listed
+    requires { ⌜ places ≤ 100 ⌝ }
 {
-    let mut nodes = [48879u16; NUMBERS];
-    let mut bytes = [170u8; BYTES];
-    let r = run_by_value(
-        book,
-        question,
-        &mut nodes[0..numbers],
-        places,
-        &mut bytes[0..room],
-        fuel,
-    );
-    let outcome = r.outcome;
-    let entries = r.list;
-    show_result(outcome);
-    show_sums(&nodes, laid(entries, r.lay), &bytes);
-}
-
-// What stands in a list place before a run.
-fn marked() -> Entry {
-    Entry::of(7, Limits::all_open())
-}
-
-// The whole list: the first so many of the entries, and behind them places as they were.
-fn laid(entries: [Entry; Limits::ENTRIES], count: usize) -> [Entry; PLACES]
-    requires { ⌜ count ≤ 64 ⌝ }
-{
-    let mut list = [marked(); PLACES];
-    let mut i: usize = 0;
-    while i < count {
-        let e = entries[i];
-        list[i] = e;
-        i += 1;
+    let mut mine = list;
+    let outcome = run(book, question, nodes, &mut mine[..places], answers, fuel);
+    Listed {
+        outcome,
+        list: mine,
     }
-    list
 }
 
 // A checksum with one more number in it.
@@ -222,18 +194,13 @@ fn number_of(side: Side) -> u64
     }
 }
 
-// The seven numbers.
-fn show_result(r: Outcome) {
-    show_item(r.number as u64);
-    show_item(r.place as u64);
-    show_item(r.turns as u64);
-    show_item(r.answers as u64);
-    show_item(r.nodes as u64);
-    show_item(r.choices as u64);
-    show_item(r.waiting as u64);
-}
-
-fn show_sums<'a>(nodes: &'a [u16; NUMBERS], list: [Entry; PLACES], bytes: &'a [u8; BYTES]) {
+// What a run left: the checksums behind the numbers, then a line for each answer.
+fn show_left<'a>(
+    nodes: &'a [u16; NUMBERS],
+    list: [Entry; PLACES],
+    bytes: &'a [u8; BYTES],
+    answers: usize,
+) {
     io::write_all(1, b"; nodes");
     show_item(sum_of_numbers(nodes));
     io::write_all(1, b" list");
@@ -241,10 +208,5 @@ fn show_sums<'a>(nodes: &'a [u16; NUMBERS], list: [Entry; PLACES], bytes: &'a [u
     io::write_all(1, b" bytes");
     show_item(sum_of_bytes(bytes));
     io::write_all(1, b"\n");
-}
-
-// A number behind what stands before it in its line.
-fn show_item(n: u64) {
-    io::write_all(1, b" ");
-    io::print_decimal(1, n);
+    show_answers(bytes, answers);
 }

@@ -13,12 +13,11 @@ use Rattle.book.specs.Rules.{Book}
 use Rattle.nodes.specs.Nodes.{Node, Heap, at}
 use Rattle.rewriting.specs.Rewriting.{Leads, Ends, Value, Values, noValues, moreValues, IsValue, AreValues}
 use Rattle.rewriting.proofs.Lists.{All, all-at, all-append}
-use Rattle.meaning.specs.Partial.{Part, Parts, bot, con, toList, _⊑_, _⊑*_, con⊑, Hits}
+use Rattle.meaning.specs.Partial.{Part, Parts, bot, con, toList, _⊑_, _⊑*_, con⊑, Hits, Gives}
 use Rattle.meaning.specs.Readings.{Side, sideOf, whole, wholes}
-use Rattle.meaning.proofs.Order.{⊑-of-eq, ⊑-trans, ⊑-con, _⊑ˡ_, _∷⊑_, ⊑ˡ-length, ⊑ˡ-refl, append-mono}
+use Rattle.meaning.proofs.Order.{⊑-refl, ⊑-of-eq, ⊑-trans, ⊑-con, _⊑ˡ_, _∷⊑_, ⊑ˡ-length, ⊑ˡ-refl, variable, append-mono, gives-mono}
 use Rattle.meaning.proofs.Finite.{Arrow, argument, target, Finite, finite, every}
-use Rattle.meaning.proofs.Measure.{GivesIn, AgreesIn, raise-gives, below-row}
-use Rattle.meaning.proofs.Fresh.{variable}
+use Rattle.meaning.proofs.Measure.{AgreesIn, below-row}
 
 -- what stands for a constructor is a variable that is there
 pub getD-inside : (ρ : List Part) (x : ℕ) {c : ℕ} {ps : Parts} → getD ρ x bot ≡ con c ps → x < length ρ
@@ -33,7 +32,7 @@ module _ (B : Book) (h : Heap) (δ : ℕ → Side) (π : ℕ → Part) (σ : ℕ
     chosen : (n : ℕ) {i l r : ℕ} → at h n ≡ Node.choice i l r → 0 < σ n → π n ⊑ π (sideOf (δ i) l r) → Redex
     ruled : (n : ℕ) {f t : ℕ} {xs env : List ℕ} {e : Expr} → at h n ≡ Node.apply f xs → B .isConstructor f ≡ false
         → Ends B h (B .tree f) xs e env
-        → t < σ n → GivesIn B t e (map π env) (π n) → Redex
+        → t < σ n → Gives B t e (map π env) (π n) → Redex
 
   -- forwards followed, node n is a constructor c whose arguments have at least the partial values ps
   record Headed (n c : ℕ) (ps : Parts) : Type 0 where
@@ -65,12 +64,12 @@ module _ (B : Book) (h : Heap) (δ : ℕ → Side) (π : ℕ → Part) (σ : ℕ
   -- the path through a tree on partial values is one on the heap, or it meets a step
   follow : {t : Tree} {ρ ρ′ : List Part} {e : Expr} → Hits B t ρ e ρ′ → (env : List ℕ) → ρ ⊑ˡ map π env → All Calm env
       → Redex ⊎ ((env′ : List ℕ) × Ends B h t env e env′ × (ρ′ ⊑ˡ map π env′))
-  follow (Hits.rule s) env le calm = inr (env, Ends.rule (rw (⊑ˡ-length le ∙ length-map env π) at s), le)
+  follow (Hits.rule s) env le calm = inr (env, Ends.rule, le)
   follow (Hits.branch {x} {c} {ts} {ρ} {ps} e t hits) env le calm =
       let l : x < length env = rw (⊑ˡ-length le ∙ length-map env π) at (getD-inside ρ x e) in
       let there : Calm (getD env x 0) = all-at 0 x calm l in
       ⊎-elim inl
-      (λ (d : Headed (getD env x 0) c ps). ⊎-elim inl (λ r. inr (r .0, Ends.branch l (d .leads) (d .is) (d .constructor) (r .1), r .2))
+      (λ (d : Headed (getD env x 0) c ps). ⊎-elim inl (λ r. inr (r .0, Ends.branch (d .leads) (d .is) (d .constructor) (r .1), r .2))
       (follow hits (env ++ d .arguments) (rw map-append (append-mono le (d .above)))
       (all-append calm (every (d .arguments) λ y i m r. there m (reach-leads (d .leads) (over {n = d .node} {x = y} (rw (d .is) (argument i)) r))))))
       (there (getD env x 0) here c ps (variable env x (⊑-of-eq (sym e)) π le))
@@ -90,7 +89,7 @@ module _ (B : Book) (h : Heap) (δ : ℕ → Side) (π : ℕ → Part) (σ : ℕ
             let u = same-head (⊑-trans le a) in
             inr (record { node = n; arguments = xs; leads = Leads.here; is = rw (u .0) at e; constructor = rw (u .0) at t; above = below-row (map π xs) (u .1) })
         go x p e q (AgreesIn.operation {xs} l o hits g) le =
-            ⊎-elim inl (λ r. inl (ruled n e o (r .1) l (rw q (raise-gives B g (r .2)))))
+            ⊎-elim inl (λ r. inl (ruled n e o (r .1) l (rw q (gives-mono g (r .2) (⊑-refl _)))))
             (follow hits xs (⊑ˡ-refl (map π xs)) (every xs λ y i. below y (rw e (argument i))))
         go x p e q (AgreesIn.choice z a) le = inl (chosen n e z (rw q a))
         go x p e q (AgreesIn.forward {m} a) le =

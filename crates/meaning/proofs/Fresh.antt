@@ -3,21 +3,21 @@
 use mathlib.Core.Bool.{true, false}
 use mathlib.Core.Path.{_≡_, refl, sym, ap, subst}
 use mathlib.Core.List.{List, [], _∷_, _++_, map}
-use Prim.Native.Nat.{ℕ, zero, suc, _+_, _-_, _≤_}
+use Prim.Native.Nat.{ℕ, suc, _+_, _-_, _≤_}
 use native.Mathlib.Omega.{arith}
 use native.Mathlib.Nat.{le-refl}
-use lib.ListN.{length, getD, replicate, length-replicate, length-append}
+use lib.ListN.{length, replicate, length-replicate, length-append}
 use Rattle.expressions.specs.Expressions.{Expr, Exprs}
 use Rattle.book.specs.Rules.{Book}
 use Rattle.nodes.specs.Nodes.{Node}
-use Rattle.machine.specs.Made.{make, makeRow, place}
+use Rattle.machine.specs.Made.{Made, make, makeRow, place}
 use Rattle.rewriting.proofs.Lists.{sum, sum-append, sum-zeros}
 use Rattle.rewriting.proofs.Holds.{Holds, holds-append}
 use Rattle.rewriting.proofs.Kept.{make-choices, place-choices}
-use Rattle.meaning.specs.Partial.{Part, Parts, bot, con, toList, _⊑_, bot⊑, con⊑, Hits}
+use Rattle.meaning.specs.Partial.{Part, Parts, bot, con, toList, _⊑_, bot⊑, con⊑, Hits, Gives, GivesRow}
 use Rattle.meaning.specs.Readings.{Side, sideOf}
-use Rattle.meaning.proofs.Order.{⊑-of-eq, ⊑-trans, _⊑ˡ_, []⊑, _∷⊑_, getD-mono, hits-mono}
-use Rattle.meaning.proofs.Measure.{GivesIn, GivesRowIn, AgreesIn, Read, read-append, raise-gives, row-below}
+use Rattle.meaning.proofs.Order.{⊑-refl, ⊑-of-eq, _⊑ˡ_, []⊑, _∷⊑_, variable, hits-mono, gives-mono}
+use Rattle.meaning.proofs.Measure.{AgreesIn, Read, read-append, row-below}
 
 module _ (B : Book) (env : List ℕ) (ρ : List Part) where
   -- The fresh nodes from `next` on, which use the choices from k up to c, can be read in size s, and then G holds.
@@ -120,15 +120,6 @@ module _ {B : Book} {env : List ℕ} {ρ : List Part} where
     holds = λ δ π a b r. let u = x .holds δ π a b r in (f δ π (u .0), u .1);
   }
 
--- what a variable gives, its node has
-pub variable : (env : List ℕ) {ρ : List Part} (x : ℕ) {p : Part} → p ⊑ getD ρ x bot → (π : ℕ → Part) → ρ ⊑ˡ map π env → p ⊑ π (getD env x 0)
-variable env x h π l = ⊑-trans h (⊑-trans (getD-mono l x) (look env x))
-  where
-    look : (ys : List ℕ) (y : ℕ) → getD (map π ys) y bot ⊑ π (getD ys y 0)
-    look [] y = bot⊑
-    look (a ∷ ys) zero = ⊑-of-eq refl
-    look (a ∷ ys) (suc y) = look ys y
-
 module _ {B : Book} where
   -- how the top node of an application agrees, once its arguments are read
   constructed : {c : ℕ} {xs : List ℕ} (ps : Parts) → B .isConstructor c ≡ true → (δ : ℕ → Side) (π : ℕ → Part) → toList ps ⊑ˡ map π xs
@@ -137,76 +128,80 @@ module _ {B : Book} where
 
   -- the same of an operation
   operated : {t f : ℕ} {xs : List ℕ} (ps : Parts) {e : Expr} {ρ′ : List Part} {p : Part} → B .isConstructor f ≡ false
-      → Hits B (B .tree f) (toList ps) e ρ′ → GivesIn B t e ρ′ p
+      → Hits B (B .tree f) (toList ps) e ρ′ → Gives B t e ρ′ p
       → (δ : ℕ → Side) (π : ℕ → Part) → toList ps ⊑ˡ map π xs → AgreesIn B δ π (suc t) (Node.apply f xs) p
   operated ps f h g δ π l =
       let u = hits-mono l h in
-      AgreesIn.operation (le-refl _) f (u .1) (raise-gives B g (u .2))
+      AgreesIn.operation (le-refl _) f (u .1) (gives-mono g (u .2) (⊑-refl _))
 
-  -- how a choice agrees, once its left side is read
-  chosen-left : {k l r : ℕ} {p : Part} (δ : ℕ → Side) (π : ℕ → Part) → p ⊑ π l → δ k ≡ Side.left → AgreesIn B δ π 1 (Node.choice k l r) p
-  unfolding sideOf
-  chosen-left {k} {l} {r} {p} δ π h e = AgreesIn.choice {i = k} {l = l} {r = r} {p = p} (le-refl 1) (rw e h)
+  -- how a choice agrees, once the side taken is read
+  chosen : {k l r : ℕ} {p : Part} (s : Side) (δ : ℕ → Side) (π : ℕ → Part) → p ⊑ π (sideOf s l r) → δ k ≡ s → AgreesIn B δ π 1 (Node.choice k l r) p
+  chosen {k} {l} {r} {p} s δ π h e = AgreesIn.choice {i = k} {l = l} {r = r} {p = p} (le-refl 1) (rw e h)
 
-  -- and its right
-  chosen-right : {k l r : ℕ} {p : Part} (δ : ℕ → Side) (π : ℕ → Part) → p ⊑ π r → δ k ≡ Side.right → AgreesIn B δ π 1 (Node.choice k l r) p
+-- the two sides of choice k, with nodes from `next` on, of which the one taken is read
+module _ (B : Book) (env : List ℕ) (a b : Expr) (next k : ℕ) where
+  abbrev onLeft : Made
+  onLeft = make a env next (suc k)
+
+  abbrev onRight : Made
+  onRight = make b env (next + length (onLeft .nodes)) (onLeft .choices)
+
+  -- both are read, and the choice agrees
+  abbrev SidesRead : List Part → Part → ℕ → Type 0
+  SidesRead ρ p t = Stretch B env ρ next k (onLeft .nodes ++ onRight .nodes) (onRight .choices)
+      (λ δ π. AgreesIn B δ π 1 (Node.choice k (onLeft .arrow) (onRight .arrow)) p) t
+
+  -- the left
+  left-read : {ρ : List Part} {p : Part} {t : ℕ} → Stretch B env ρ next (suc k) (onLeft .nodes) (onLeft .choices) (λ δ π. p ⊑ π (onLeft .arrow)) t
+      → SidesRead ρ p t
   unfolding sideOf
-  chosen-right {k} {l} {r} {p} δ π h e = AgreesIn.choice {i = k} {l = l} {r = r} {p = p} (le-refl 1) (rw e h)
+  left-read x =
+      let up = make-choices env b (next + length (onLeft .nodes)) (onLeft .choices) .0 in
+      let unread = blank {s = 0} (onRight .nodes) {G = λ δ π. Unit {0}} up (λ δ π. tt) in
+      restate (λ δ π v. chosen Side.left δ π (v .0 .0) (v .0 .1)) (join (decide Side.left x) unread (omega arith))
+
+  -- the right
+  right-read : {ρ : List Part} {p : Part} {t : ℕ}
+      → Stretch B env ρ (next + length (onLeft .nodes)) (onLeft .choices) (onRight .nodes) (onRight .choices) (λ δ π. p ⊑ π (onRight .arrow)) t
+      → SidesRead ρ p t
+  unfolding sideOf
+  right-read x =
+      let unread = blank {s = 0} (onLeft .nodes) {G = λ δ π. Unit {0}} (make-choices env a next (suc k) .0) (λ δ π. tt) in
+      restate (λ δ π v. chosen Side.right δ π (v .1) (v .0 .1)) (join (decide Side.right unread) x (omega arith))
 
 module _ (B : Book) (env : List ℕ) where
   mutual
     unfolding make toList
 
-    -- the nodes of an expression, and of a row of them, can be read as it gives
-    make-read : {s : ℕ} {e : Expr} {ρ : List Part} {p : Part} → GivesIn B s e ρ p → (next k : ℕ)
+    -- the nodes of an expression can be read as it gives
+    make-read : {s : ℕ} {e : Expr} {ρ : List Part} {p : Part} → Gives B s e ρ p → (next k : ℕ)
         → Stretch B env ρ next k (make e env next k .nodes) (make e env next k .choices) (λ δ π. p ⊑ π (make e env next k .arrow)) s
-    make-read {e} GivesIn.nothing next k = blank (make e env next k .nodes) (make-choices env e next k .0) (λ δ π. bot⊑)
-    make-read (GivesIn.var {x} h) next k = none-made (λ δ π l. variable env x h π l)
-    make-read (GivesIn.constructor {ps} c r) next k = push (row-read r (suc next) k) (constructed ps c) (omega arith)
-    make-read (GivesIn.operation {ps} l f r h g) next k = push (row-read r (suc next) k) (operated ps f h g) (omega arith)
-    make-read (GivesIn.left {a} {b} l g) next k =
+    make-read {e} Gives.nothing next k = blank (make e env next k .nodes) (make-choices env e next k .0) (λ δ π. bot⊑)
+    make-read (Gives.var {x} h) next k = none-made (λ δ π l. variable env x h π l)
+    make-read (Gives.constructor {ps} c r) next k = push (row-read r (suc next) k) (constructed ps c) (omega arith)
+    make-read (Gives.operation {ps} l f r h g) next k = push (row-read r (suc next) k) (operated ps f h g) (omega arith)
+    make-read (Gives.left {a} {b} l g) next k = push (left-read B env a b (suc next) k (make-read g (suc next) (suc k))) (λ δ π v. v) (omega arith)
+    make-read (Gives.right {a} {b} l g) next k =
         let m = make a env (suc next) (suc k) in
-        let m′ = make b env (suc next + length (m .nodes)) (m .choices) in
-        push (join (decide Side.left (make-read g (suc next) (suc k)))
-        (blank {s = 0} (m′ .nodes) {G = λ δ π. Unit {0}} (make-choices env b (suc next + length (m .nodes)) (m .choices) .0) (λ δ π. tt)) (le-refl _))
-        (λ δ π v. chosen-left δ π (v .0 .0) (v .0 .1)) (omega arith)
-    make-read (GivesIn.right {a} {b} l g) next k =
-        let m = make a env (suc next) (suc k) in
-        let m′ = make b env (suc next + length (m .nodes)) (m .choices) in
-        push (join (decide Side.right (blank {s = 0} (m .nodes) {G = λ δ π. Unit {0}} (make-choices env a (suc next) (suc k) .0) (λ δ π. tt)))
-        (make-read g (suc next + length (m .nodes)) (m .choices)) (le-refl _))
-        (λ δ π v. chosen-right δ π (v .1) (v .0 .1)) (omega arith)
+        push (right-read B env a b (suc next) k (make-read g (suc next + length (m .nodes)) (m .choices))) (λ δ π v. v) (omega arith)
 
-    row-read : {s : ℕ} {es : Exprs} {ρ : List Part} {ps : Parts} → GivesRowIn B s es ρ ps → (next k : ℕ)
+    -- of a row
+    row-read : {s : ℕ} {es : Exprs} {ρ : List Part} {ps : Parts} → GivesRow B s es ρ ps → (next k : ℕ)
         → Stretch B env ρ next k (makeRow es env next k .nodes) (makeRow es env next k .choices) (λ δ π. toList ps ⊑ˡ map π (makeRow es env next k .arrows)) s
-    row-read GivesRowIn.none next k = none-made (λ δ π l. []⊑)
-    row-read (GivesRowIn.more {e} {es} l g r) next k =
+    row-read GivesRow.none next k = none-made (λ δ π l. []⊑)
+    row-read (GivesRow.more {e} {es} l g r) next k =
         let m = make e env next k in
         restate (λ δ π v. v .0 ∷⊑ v .1) (join (make-read g next k) (row-read r (next + length (m .nodes)) (m .choices)) l)
 
   -- The nodes that take an operation's place can be read so that the old node keeps its value.
-  pub place-read : {s : ℕ} {e : Expr} {ρ : List Part} {p : Part} → GivesIn B s e ρ p → (next k : ℕ) → (t : ℕ) × (u : ℕ) × (t + u ≤ s)
+  pub place-read : {s : ℕ} {e : Expr} {ρ : List Part} {p : Part} → Gives B s e ρ p → (next k : ℕ) → (t : ℕ) × (u : ℕ) × (t + u ≤ s)
       × Stretch B env ρ next k (place e env next k .nodes) (place e env next k .choices) (λ δ π. AgreesIn B δ π t (place e env next k .top) p) u
   unfolding make place toList
-  place-read {e} GivesIn.nothing next k = (0, 0, omega arith, blank (place e env next k .nodes) (place-choices env e next k .0) (λ δ π. AgreesIn.idle))
-  place-read (GivesIn.var {x} h) next k = (0, 0, omega arith, none-made (λ δ π l. AgreesIn.forward (variable env x h π l)))
-  place-read {s} (GivesIn.constructor {ps} c r) next k = (0, s, omega arith, restate (constructed ps c) (row-read r next k))
-  place-read (GivesIn.operation {r = i} {t} {ps} l f r h g) next k = (suc t, i, omega arith, restate (operated ps f h g) (row-read r next k))
-  place-read (GivesIn.left {t} {a} {b} l g) next k =
+  place-read {e} Gives.nothing next k = (0, 0, omega arith, blank (place e env next k .nodes) (place-choices env e next k .0) (λ δ π. AgreesIn.idle))
+  place-read (Gives.var {x} h) next k = (0, 0, omega arith, none-made (λ δ π l. AgreesIn.forward (variable env x h π l)))
+  place-read {s} (Gives.constructor {ps} c r) next k = (0, s, omega arith, restate (constructed ps c) (row-read r next k))
+  place-read (Gives.operation {r = i} {t} {ps} l f r h g) next k = (suc t, i, omega arith, restate (operated ps f h g) (row-read r next k))
+  place-read (Gives.left {t} {a} {b} l g) next k = (1, t, omega arith, left-read B env a b next k (make-read g next (suc k)))
+  place-read (Gives.right {t} {a} {b} l g) next k =
       let m = make a env next (suc k) in
-      let m′ = make b env (next + length (m .nodes)) (m .choices) in (
-        1,
-        t + 0,
-        omega arith,
-        restate (λ δ π v. chosen-left δ π (v .0 .0) (v .0 .1)) (join (decide Side.left (make-read g next (suc k)))
-            (blank {s = 0} (m′ .nodes) {G = λ δ π. Unit {0}} (make-choices env b (next + length (m .nodes)) (m .choices) .0) (λ δ π. tt)) (le-refl _)),
-      )
-  place-read (GivesIn.right {t} {a} {b} l g) next k =
-      let m = make a env next (suc k) in
-      let m′ = make b env (next + length (m .nodes)) (m .choices) in (
-        1,
-        0 + t,
-        omega arith,
-        restate (λ δ π v. chosen-right δ π (v .1) (v .0 .1)) (join (decide Side.right (blank {s = 0} (m .nodes) {G = λ δ π. Unit {0}} (make-choices env a next (suc k) .0) (λ δ π. tt)))
-            (make-read g (next + length (m .nodes)) (m .choices)) (le-refl _)),
-      )
+      (1, t, omega arith, right-read B env a b next k (make-read g (next + length (m .nodes)) (m .choices)))

@@ -1,9 +1,9 @@
 -- Readings of a heap h, and of the heap h′ in which node n has been replaced and others added: a reading of h goes on to h′ with
 -- what the fresh nodes have, and a reading of h′ is one of h if it fits the old node n, once the others have been raised as needed.
-use mathlib.Core.Path.{_≡_, refl, sym, ap, ap₂, _∙_}
+use mathlib.Core.Path.{_≡_, refl, sym, ap, _∙_}
 use mathlib.Core.Logic.{_⊎_, inl, inr, _≢_}
 use mathlib.Core.Option.{some}
-use mathlib.Core.List.{List, [], _∷_, map}
+use mathlib.Core.List.{List}
 use Prim.Native.Nat.{ℕ, _+_, _-_, _≤_, _<_}
 use native.Mathlib.Decide.{ℕ-discrete, decLt}
 use native.Mathlib.Omega.{arith}
@@ -11,8 +11,9 @@ use lib.ListN.{length, getD}
 use Rattle.book.specs.Rules.{Book}
 use Rattle.nodes.specs.Nodes.{Node, apply, choice, fail, forward, Heap, at}
 use Rattle.rewriting.specs.Rewriting.{Value}
+use Rattle.rewriting.proofs.Lists.{map-same}
 use Rattle.rewriting.proofs.Update.{splice, splice-below, splice-from}
-use Rattle.rewriting.proofs.Heaps.{at-past, there, AllBelow, ArrowsBelow, InRange, grown, grown-new, grown-at, grown-old}
+use Rattle.rewriting.proofs.Heaps.{at-past, there, forward≢fail, choice≢fail, ArrowsBelow, InRange, grown, grown-old, grown-each}
 use Rattle.meaning.specs.Partial.{Part, bot, _⊑_, bot⊑}
 use Rattle.meaning.specs.Readings.{Side, left, right, sideOf, Agrees, Reads, whole, Decisions, CanBe}
 use Rattle.meaning.proofs.Order.{⊑-refl, ⊑-of-eq, ⊑-whole, _⊑ᶠ_, agrees-mono, agrees-fail, agrees-bot}
@@ -30,16 +31,11 @@ old-or-new m b = go (decLt m b)
 abbrev pub cut : (ℕ → Part) → ℕ → ℕ → Part
 cut π b = splice π b (λ j. bot)
 
--- arrows below b are not touched by the cut
-map-cut : (π : ℕ → Part) (b : ℕ) (xs : List ℕ) → AllBelow b xs → map (cut π b) xs ≡ map π xs
-map-cut π b [] all = refl
-map-cut π b (x ∷ xs) (lt, all) = ap₂ _∷_ (splice-below π b (λ j. bot) x lt) (map-cut π b xs all)
-
 -- what agrees still does, if its arrows are below the cut
 agrees-cut : (B : Book) (δ : ℕ → Side) (π : ℕ → Part) (b : ℕ) (x : Node) (p : Part) → ArrowsBelow b x → Agrees B δ π x p
     → Agrees B δ (cut π b) x p
 unfolding Agrees sideOf
-agrees-cut B δ π b (apply f xs) p all a = rw (map-cut π b xs all) a
+agrees-cut B δ π b (apply f xs) p all a = rw (map-same (splice-below π b (λ j. bot)) all) a
 agrees-cut B δ π b (choice i l r) p (ll, lr) a = rw (splice-below π b (λ j. bot) (sideOf (δ i) l r) (side (δ i))) a
   where
     side : (s : Side) → sideOf s l r < b
@@ -67,6 +63,16 @@ unchanged h n q e q< (inr z) = omega arith
 pub unchanged-at : (h : Heap) (n q : ℕ) → at h q ≢ at h n → at h q ≢ fail → ¬ Changed h n q
 unchanged-at h n q other no-fail = unchanged h n q (λ e. other (ap (at h) e)) (there h q no-fail)
 
+-- where an application is replaced
+module _ (h : Heap) (n : ℕ) {f : ℕ} {xs : List ℕ} (at-n : at h n ≡ apply f xs) where
+  -- forwards are unchanged
+  pub forward-unchanged : (q k : ℕ) → at h q ≡ forward k → ¬ Changed h n q
+  forward-unchanged q k e = unchanged-at h n q (λ w. let o : _≡_ {A = ℕ} 0 1 = cc in omega arith) (forward≢fail e)
+
+  -- and so are choices
+  pub choice-unchanged : (q i l r : ℕ) → at h q ≡ choice i l r → ¬ Changed h n q
+  choice-unchanged q i l r e = unchanged-at h n q (λ w. let o : _≡_ {A = ℕ} 0 1 = cc in omega arith) (choice≢fail e)
+
 module _ (B : Book) (h : Heap) (n : ℕ) (x : Node) (ys : List Node) (lt : n < length h) where
   -- past the end a reading has nothing, so it only grows with what the fresh nodes have
   pub splice-above : (δ : ℕ → Side) (π g : ℕ → Part) → Reads B h δ π → π ⊑ᶠ splice π (length h) g
@@ -79,16 +85,10 @@ module _ (B : Book) (h : Heap) (n : ℕ) (x : Node) (ys : List Node) (lt : n < l
   -- A reading of h goes on to the grown heap.
   pub reads-grown : (δ : ℕ → Side) (π g : ℕ → Part) → Reads B h δ π → Agrees B δ (splice π (length h) g) x (π n)
       → ((j : ℕ) → Agrees B δ (splice π (length h) g) (getD ys j fail) (g j)) → Reads B (grown h n x ys) δ (splice π (length h) g)
-  reads-grown δ π g reads top fresh m = go (old-or-new m (length h))
-    where
-      old : m < length h → Dec (m ≡ n) → Agrees B δ (splice π (length h) g) (at (grown h n x ys) m) (splice π (length h) g m)
-      old m< (yes e) = rw (splice-below π (length h) g m m<, e, grown-at h n x ys lt) top
-      old m< (no e) = rw (splice-below π (length h) g m m<, grown-old h n x ys m e m<)
-          (agrees-mono B δ (at h m) (splice-above δ π g reads) (⊑-refl (π m)) (reads m))
-
-      go : (m < length h) ⊎ ((j : ℕ) × (m ≡ length h + j)) → Agrees B δ (splice π (length h) g) (at (grown h n x ys) m) (splice π (length h) g m)
-      go (inl m<) = old m< (ℕ-discrete m n)
-      go (inr (j, e)) = rw (splice-from π (length h) g m j e, e, grown-new h n x ys j) (fresh j)
+  reads-grown δ π g reads top fresh = grown-each h n x ys (λ m y. Agrees B δ (splice π (length h) g) y (splice π (length h) g m))
+      (λ n<. rw (splice-below π (length h) g n n<) top)
+      (λ m e m<. rw (splice-below π (length h) g m m<) (agrees-mono B δ (at h m) (splice-above δ π g reads) (⊑-refl (π m)) (reads m)))
+      (λ j. rw (splice-from π (length h) g (length h + j) j refl) (fresh j))
 
   -- A reading of the grown heap is one of h, but for the changed nodes.
   pub reads-but : (δ : ℕ → Side) (π : ℕ → Part) → Reads B (grown h n x ys) δ π → ReadsBut B h δ (Changed h n) π

@@ -23,7 +23,6 @@ pub mod Turns
 pub mod AllTurns
 pub mod Refusals
 pub mod Ran
-pub mod PlainReaches
 pub mod Unambiguous
 pub mod ReadBack
 pub mod Demand3

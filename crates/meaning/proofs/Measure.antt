@@ -4,18 +4,18 @@ use mathlib.Core.Bool.{Bool, true, false}
 use mathlib.Core.Path.{_≡_, refl}
 use mathlib.Core.Logic.{inl, inr}
 use mathlib.Core.List.{List, [], _∷_, _++_, map}
-use Prim.Native.Nat.{ℕ, zero, suc, _+_, _≤_, _<_}
+use Prim.Native.Nat.{ℕ, zero, suc, _<_}
 use native.Mathlib.Nat.{le-refl}
 use lib.ListN.{length, getD, set}
-use Rattle.expressions.specs.Expressions.{Expr, Exprs}
+use Rattle.expressions.specs.Expressions.{Expr}
 use Rattle.book.specs.Rules.{Book}
 use Rattle.nodes.specs.Nodes.{Node, at}
 use Rattle.rewriting.proofs.Lists.{firsts}
 use Rattle.rewriting.proofs.Heaps.{ChoiceBelow, ChoicesBelow}
 use Rattle.meaning.specs.Partial.{Part, Parts, bot, con, noParts, moreParts, toList, ofList, _⊑_, _⊑*_, con⊑, none⊑, more⊑}
-use Rattle.meaning.specs.Partial.{Hits, Gives, GivesRow}
+use Rattle.meaning.specs.Partial.{Hits, Gives}
 use Rattle.meaning.specs.Readings.{Side, sideOf, ApplyAgrees, Agrees}
-use Rattle.meaning.proofs.Order.{⊑-trans, _⊑ˡ_, []⊑, _∷⊑_, _⊑ᶠ_, getD-mono, map-mono, ofList-mono, hits-mono}
+use Rattle.meaning.proofs.Order.{⊑-refl, ⊑-trans, _⊑ˡ_, []⊑, _∷⊑_, _⊑ᶠ_, map-mono, ofList-mono, hits-mono, gives-mono}
 use Rattle.meaning.proofs.Order.{agrees-bot, agrees-constructor, agrees-operation, agrees-choice, agrees-forward}
 
 -- the same with a row on the left only
@@ -31,54 +31,6 @@ row-below noParts []⊑ = none⊑
 row-below (moreParts p ps) (a ∷⊑ at′) = more⊑ a (row-below ps at′)
 
 module _ (B : Book) where
-  mutual
-    -- e can give p by a derivation of size s at most
-    pub data GivesIn : ℕ → Expr → List Part → Part → Type 0 where
-      nothing : {s : ℕ} {e : Expr} {ρ : List Part} → GivesIn s e ρ bot
-      var : {s x : ℕ} {ρ : List Part} {p : Part} → p ⊑ getD ρ x bot → GivesIn s (Expr.var x) ρ p
-      constructor : {s c : ℕ} {es : Exprs} {ρ : List Part} {ps : Parts} → B .isConstructor c ≡ true → GivesRowIn s es ρ ps
-          → GivesIn s (Expr.apply c es) ρ (con c ps)
-      operation : {s r t f : ℕ} {es : Exprs} {ρ : List Part} {ps : Parts} {e : Expr} {ρ′ : List Part} {p : Part} → r + t < s
-          → B .isConstructor f ≡ false → GivesRowIn r es ρ ps → Hits B (B .tree f) (toList ps) e ρ′ → GivesIn t e ρ′ p
-          → GivesIn s (Expr.apply f es) ρ p
-      left : {s t : ℕ} {a b : Expr} {ρ : List Part} {p : Part} → t < s → GivesIn t a ρ p → GivesIn s (Expr.choice a b) ρ p
-      right : {s t : ℕ} {a b : Expr} {ρ : List Part} {p : Part} → t < s → GivesIn t b ρ p → GivesIn s (Expr.choice a b) ρ p
-
-    -- the same of a row
-    pub data GivesRowIn : ℕ → Exprs → List Part → Parts → Type 0 where
-      none : {s : ℕ} {ρ : List Part} → GivesRowIn s Exprs.noExprs ρ noParts
-      more : {s r t : ℕ} {e : Expr} {es : Exprs} {ρ : List Part} {p : Part} {ps : Parts} → r + t ≤ s
-          → GivesIn r e ρ p → GivesRowIn t es ρ ps → GivesRowIn s (Exprs.moreExprs e es) ρ (moreParts p ps)
-
-  mutual
-    -- what can be given can be given in some size
-    pub gives-in : {e : Expr} {ρ : List Part} {p : Part} → Gives B e ρ p → (s : ℕ) × GivesIn s e ρ p
-    gives-in Gives.nothing = (0, nothing)
-    gives-in (Gives.var h) = (0, var h)
-    gives-in (Gives.constructor c r) = let i = gives-row-in r in (i .0, constructor c (i .1))
-    gives-in (Gives.operation f r h g) = let i = gives-row-in r in let j = gives-in g in (suc (i .0 + j .0), operation (le-refl _) f (i .1) h (j .1))
-    gives-in (Gives.left g) = let i = gives-in g in (suc (i .0), left (le-refl _) (i .1))
-    gives-in (Gives.right g) = let i = gives-in g in (suc (i .0), right (le-refl _) (i .1))
-
-    pub gives-row-in : {es : Exprs} {ρ : List Part} {ps : Parts} → GivesRow B es ρ ps → (s : ℕ) × GivesRowIn s es ρ ps
-    gives-row-in GivesRow.none = (0, none)
-    gives-row-in (GivesRow.more g r) = let i = gives-in g in let j = gives-row-in r in (i .0 + j .0, more (le-refl _) (i .1) (j .1))
-
-  mutual
-    -- with larger values for the variables the same can be given, by a derivation no larger
-    pub raise-gives : {s : ℕ} {e : Expr} {ρ ρ′ : List Part} {p : Part} → GivesIn s e ρ p → ρ ⊑ˡ ρ′ → GivesIn s e ρ′ p
-    raise-gives nothing b = nothing
-    raise-gives (var h) b = var (⊑-trans h (getD-mono b _))
-    raise-gives (constructor c r) b = constructor c (raise-row r b)
-    raise-gives (operation l f r h g) b = operation l f (raise-row r b) h g
-    raise-gives (left l g) b = left l (raise-gives g b)
-    raise-gives (right l g) b = right l (raise-gives g b)
-
-    -- the same of a row
-    pub raise-row : {s : ℕ} {es : Exprs} {ρ ρ′ : List Part} {ps : Parts} → GivesRowIn s es ρ ps → ρ ⊑ˡ ρ′ → GivesRowIn s es ρ′ ps
-    raise-row none b = none
-    raise-row (more l g r) b = more l (raise-gives g b) (raise-row r b)
-
   module _ (δ : ℕ → Side) (π : ℕ → Part) where
     -- the partial value p may stand at a node with this content, by a derivation of size s at most
     pub data AgreesIn : ℕ → Node → Part → Type 0 where
@@ -86,7 +38,7 @@ module _ (B : Book) where
       constructor : {s c : ℕ} {xs : List ℕ} {p : Part} → B .isConstructor c ≡ true → p ⊑ con c (ofList (map π xs))
           → AgreesIn s (Node.apply c xs) p
       operation : {s t f : ℕ} {xs : List ℕ} {p : Part} {e : Expr} {ρ : List Part} → t < s
-          → B .isConstructor f ≡ false → Hits B (B .tree f) (map π xs) e ρ → GivesIn t e ρ p → AgreesIn s (Node.apply f xs) p
+          → B .isConstructor f ≡ false → Hits B (B .tree f) (map π xs) e ρ → Gives B t e ρ p → AgreesIn s (Node.apply f xs) p
       choice : {s i l r : ℕ} {p : Part} → 0 < s → p ⊑ π (sideOf (δ i) l r) → AgreesIn s (Node.choice i l r) p
       forward : {s m : ℕ} {p : Part} → p ⊑ π m → AgreesIn s (Node.forward m) p
 
@@ -122,7 +74,7 @@ module _ (B : Book) where
   raise-agrees same le f (constructor {xs} c h) = constructor c (⊑-trans h (con⊑ (ofList-mono (map-mono le xs))))
   raise-agrees same le f (operation {xs} l o h g) =
       let u = hits-mono (map-mono le xs) h in
-      operation l o (u .1) (raise-gives g (u .2))
+      operation l o (u .1) (gives-mono g (u .2) (⊑-refl _))
   raise-agrees {δ′} same le a (choice {i} {l} {r} z h) = choice z (⊑-trans (rw (same i a) at h) (le (sideOf (δ′ i) l r)))
   raise-agrees same le f (forward {m} h) = forward (⊑-trans h (le m))
 
@@ -133,26 +85,12 @@ module _ (B : Book) where
   raise-read same le below none = none
   raise-read same le below (more a r) = more (raise-agrees same le (below 0) a) (raise-read same le (λ m. below (suc m)) r)
 
-  mutual
-    -- sizes forgotten
-    gives-out : {s : ℕ} {e : Expr} {ρ : List Part} {p : Part} → GivesIn s e ρ p → Gives B e ρ p
-    gives-out nothing = Gives.nothing
-    gives-out (var h) = Gives.var h
-    gives-out (constructor c r) = Gives.constructor c (row-out r)
-    gives-out (operation l f r h g) = Gives.operation f (row-out r) h (gives-out g)
-    gives-out (left l g) = Gives.left (gives-out g)
-    gives-out (right l g) = Gives.right (gives-out g)
-
-    row-out : {s : ℕ} {es : Exprs} {ρ : List Part} {ps : Parts} → GivesRowIn s es ρ ps → GivesRow B es ρ ps
-    row-out none = GivesRow.none
-    row-out (more l g r) = GivesRow.more (gives-out g) (row-out r)
-
   -- what may stand at a node by a derivation of some size may stand there
   pub agrees-out : {δ : ℕ → Side} {π : ℕ → Part} {s : ℕ} {x : Node} {p : Part} → AgreesIn δ π s x p → Agrees B δ π x p
   agrees-out {δ} {π} (idle {x = x}) = agrees-bot B δ π x
   agrees-out {δ} {π} (constructor c h) = agrees-constructor B δ π refl c .1 h
-  agrees-out {δ} {π} {p} (operation {e = e} {ρ = ρ} l o h g) =
-      agrees-operation B δ π refl o .1 (inr (record { expr = e; env = ρ; hits = h; gives = gives-out g }))
+  agrees-out {δ} {π} {p} (operation {t = t} {e = e} {ρ = ρ} l o h g) =
+      agrees-operation B δ π refl o .1 (inr (record { expr = e; env = ρ; size = t; hits = h; gives = g }))
   agrees-out {δ} {π} (choice z h) = agrees-choice B δ π refl .1 h
   agrees-out {δ} {π} (forward h) = agrees-forward B δ π refl .1 h
 
@@ -164,7 +102,7 @@ module _ (B : Book) where
       go : (b : Bool) → B .isConstructor f ≡ b → ApplyAgrees B b f (map π xs) p → (s : ℕ) × AgreesIn δ π s (Node.apply f xs) p
       go true c h = (0, constructor c h)
       go false o (inl e) = (0, rw e idle)
-      go false o (inr g) = let i = gives-in (g .gives) in (suc (i .0), operation (le-refl _) o (g .hits) (i .1))
+      go false o (inr g) = (suc (g .size), operation (le-refl _) o (g .hits) (g .gives))
   agrees-in (Node.choice i l r) a = (1, choice (le-refl 1) a)
   agrees-in Node.fail a = (0, rw a idle)
   agrees-in (Node.forward m) a = (0, forward a)

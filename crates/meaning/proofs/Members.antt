@@ -48,11 +48,6 @@ module _ {A : Type 0} {P : A → Type 0} where
   all-split [] p = (All.none, p)
   all-split (a ∷ l) (All.more p ps) = let (x, y) = all-split l ps in (All.more p x, y)
 
-  -- what follows from it holds of each, too
-  pub all-map : {Q : A → Type 0} {l : List A} → ((a : A) → P a → Q a) → All P l → All Q l
-  all-map f All.none = All.none
-  all-map f (All.more p ps) = All.more (f _ p) (all-map f ps)
-
 -- R holds of every two
 pub data Pairwise {A : Type 0} (R : A → A → Type 0) : List A → Type 0 where
   none : Pairwise R []

@@ -101,6 +101,16 @@ getD-mono []⊑ x = bot⊑
 getD-mono (h ∷⊑ hs) zero = h
 getD-mono (h ∷⊑ hs) (suc x) = getD-mono hs x
 
+-- what a variable gives, its node has
+pub variable : (env : List ℕ) {ρ : List Part} (x : ℕ) {p : Part} → p ⊑ getD ρ x bot → (π : ℕ → Part) → ρ ⊑ˡ map π env → p ⊑ π (getD env x 0)
+variable env x le π more = ⊑-trans le (⊑-trans (getD-mono more x) (look env x))
+  where
+    -- a variable that is not there gives nothing
+    look : (ys : List ℕ) (y : ℕ) → getD (map π ys) y bot ⊑ π (getD ys y 0)
+    look [] y = bot⊑
+    look (a ∷ ys) zero = ⊑-refl (π a)
+    look (a ∷ ys) (suc y) = look ys y
+
 -- joined, they are
 pub append-mono : {ps qs rs ss : List Part} → ps ⊑ˡ qs → rs ⊑ˡ ss → ps ++ rs ⊑ˡ qs ++ ss
 append-mono []⊑ k = k
@@ -138,26 +148,27 @@ hits-mono {B} {σ} le (Hits.branch {x = x} e c hits) =
     (σ′, Hits.branch e′ c hits′, le′)
 
 mutual
-  -- with more known of the variables an expression gives as much, and less
-  pub gives-mono : {B : Book} {e : Expr} {ρ σ : List Part} {p q : Part} → Gives B e ρ p → ρ ⊑ˡ σ → q ⊑ p → Gives B e σ q
+  -- with more known of the variables an expression gives as much, and less, by a derivation no larger
+  pub gives-mono : {B : Book} {s : ℕ} {e : Expr} {ρ σ : List Part} {p q : Part} → Gives B s e ρ p → ρ ⊑ˡ σ → q ⊑ p → Gives B s e σ q
   gives-mono Gives.nothing le bot⊑ = Gives.nothing
   gives-mono (Gives.var {x = x} h) le k = Gives.var (⊑-trans k (⊑-trans h (getD-mono le x)))
   gives-mono (Gives.constructor c row) le bot⊑ = Gives.nothing
   gives-mono (Gives.constructor c row) le (con⊑ k) = Gives.constructor c (givesRow-mono row le k)
-  gives-mono (Gives.operation {ps = ps} {ρ′ = ρ′} c row hits g) le k =
-      Gives.operation c (givesRow-mono row le (⊑*-refl ps)) hits (gives-mono g (⊑ˡ-refl ρ′) k)
-  gives-mono (Gives.left g) le k = Gives.left (gives-mono g le k)
-  gives-mono (Gives.right g) le k = Gives.right (gives-mono g le k)
+  gives-mono (Gives.operation {ps = ps} {ρ′ = ρ′} lt c row hits g) le k =
+      Gives.operation lt c (givesRow-mono row le (⊑*-refl ps)) hits (gives-mono g (⊑ˡ-refl ρ′) k)
+  gives-mono (Gives.left lt g) le k = Gives.left lt (gives-mono g le k)
+  gives-mono (Gives.right lt g) le k = Gives.right lt (gives-mono g le k)
 
-  pub givesRow-mono : {B : Book} {es : Exprs} {ρ σ : List Part} {ps qs : Parts} → GivesRow B es ρ ps → ρ ⊑ˡ σ → qs ⊑* ps → GivesRow B es σ qs
+  -- so does a row of them
+  givesRow-mono : {B : Book} {s : ℕ} {es : Exprs} {ρ σ : List Part} {ps qs : Parts} → GivesRow B s es ρ ps → ρ ⊑ˡ σ → qs ⊑* ps → GivesRow B s es σ qs
   givesRow-mono GivesRow.none le none⊑ = GivesRow.none
-  givesRow-mono (GivesRow.more g gs) le (more⊑ k ks) = GivesRow.more (gives-mono g le k) (givesRow-mono gs le ks)
+  givesRow-mono (GivesRow.more few g gs) le (more⊑ k ks) = GivesRow.more few (gives-mono g le k) (givesRow-mono gs le ks)
 
 -- so does an operation
 pub operationGives-mono : {B : Book} {f : ℕ} {ρ σ : List Part} {p q : Part} → ρ ⊑ˡ σ → q ⊑ p → OperationGives B f ρ p → OperationGives B f σ q
 operationGives-mono le k o =
     let (σ′, hits′, le′) = hits-mono le (o .hits) in
-    record { expr = o .expr; env = σ′; hits = hits′; gives = gives-mono (o .gives) le′ k }
+    record { expr = o .expr; env = σ′; size = o .size; hits = hits′; gives = gives-mono (o .gives) le′ k }
 
 -- what may stand at an application may still
 pub applyAgrees-mono : (B : Book) (b : Bool) (f : ℕ) {ρ σ : List Part} {p q : Part} → ρ ⊑ˡ σ → q ⊑ p → ApplyAgrees B b f ρ p

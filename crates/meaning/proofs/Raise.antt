@@ -1,35 +1,24 @@
 -- A reading may be raised: where a node may have more, by what stands there, another reading gives it more and no node less. So may
 -- the forwards that lead to it, and all the nodes that a path through a tree looks at.
 use mathlib.Core.Bool.{true}
-use mathlib.Core.Path.{_≡_, refl, sym, _∙_}
-use mathlib.Core.List.{List, [], _∷_, _++_, map, map-append}
-use Prim.Native.Nat.{ℕ, zero, suc, _<_}
+use mathlib.Core.Path.{_≡_, refl, sym, subst, _∙_}
+use mathlib.Core.List.{List, _++_, map, map-append}
+use Prim.Native.Nat.{ℕ}
 use native.Mathlib.Decide.{ℕ-discrete}
-use native.Mathlib.Nat.{not-suc-le-zero, le-of-suc-le-suc}
-use lib.ListN.{length, getD, length-map}
+use lib.ListN.{getD, length-map}
 use Rattle.expressions.specs.Expressions.{Expr}
-use Rattle.book.specs.Trees.{Tree}
+use Rattle.book.specs.Trees.{Tree, Trees, treeAt}
 use Rattle.book.specs.Rules.{Book}
 use Rattle.nodes.specs.Nodes.{apply, choice, forward, Heap, at}
 use Rattle.rewriting.specs.Rewriting.{Leads, Ends}
+use Rattle.rewriting.proofs.Lists.{getD-mapped}
+use Rattle.rewriting.proofs.Steers.{Steers}
 use Rattle.rewriting.proofs.Update.{update, update-same, update-other}
-use Rattle.meaning.specs.Partial.{Part, bot, toList, ofList, _⊑_, bot⊑, Hits}
+use Rattle.meaning.specs.Partial.{Part, Parts, bot, toList, ofList, _⊑_, Hits}
 use Rattle.meaning.specs.Readings.{Side, sideOf, Agrees, Reads}
-use Rattle.meaning.proofs.Order.{⊑-refl, ⊑-trans, ⊑-of-eq, ⊑-con, _⊑ˡ_, _⊑ᶠ_, ⊑ˡ-refl, ⊑ˡ-trans, getD-mono, append-mono}
+use Rattle.meaning.proofs.Order.{⊑-refl, ⊑-trans, ⊑-of-eq, ⊑-con, con⊑-same, _⊑ˡ_, _⊑ᶠ_, ⊑ˡ-refl, ⊑ˡ-trans, variable, append-mono}
 use Rattle.meaning.proofs.Order.{map-mono, toList-mono, toList-ofList, hits-mono, agrees-mono, agrees-constructor}
 use Rattle.meaning.proofs.Order.{agrees-choice, agrees-forward}
-
--- what a variable that is there stands for
-pub getD-map : (π : ℕ → Part) (xs : List ℕ) (j : ℕ) → j < length xs → getD (map π xs) j bot ≡ π (getD xs j 0)
-getD-map π [] j lt = absurd (not-suc-le-zero lt)
-getD-map π (x ∷ xs) zero lt = refl
-getD-map π (x ∷ xs) (suc j) lt = getD-map π xs j (le-of-suc-le-suc lt)
-
--- and one that is not there stands for nothing
-pub getD-map-below : (π : ℕ → Part) (xs : List ℕ) (j : ℕ) → getD (map π xs) j bot ⊑ π (getD xs j 0)
-getD-map-below π [] j = bot⊑
-getD-map-below π (x ∷ xs) zero = ⊑-refl (π x)
-getD-map-below π (x ∷ xs) (suc j) = getD-map-below π xs j
 
 -- The nodes in F are left out: they need not agree, and they are never raised. (Where none is left out, a reading.)
 module _ (B : Book) (h : Heap) (δ : ℕ → Side) (F : ℕ → Type 0) where
@@ -114,8 +103,8 @@ module _ (B : Book) (h : Heap) (δ : ℕ → Side) (F : ℕ → Type 0) where
     -- the nodes that a path looks at may be raised so
     pub raise-path : {π : ℕ → Part} {t : Tree} {env : List ℕ} {e : Expr} {env′ : List ℕ}
         → ((q c : ℕ) (xs : List ℕ) → at h q ≡ apply c xs → B .isConstructor c ≡ true → ¬ F q)
-        → ReadsBut π → Ends B h t env e env′ → Followed π t env e env′
-    raise-path {π} {env} firm reads (Ends.rule s) = record {
+        → ReadsBut π → Steers B h t env → Ends B h t env e env′ → Followed π t env e env′
+    raise-path {π} {env} firm reads (Steers.rule s) Ends.rule = record {
       to = π;
       above = λ q. ⊑-refl (π q);
       reads = reads;
@@ -124,8 +113,8 @@ module _ (B : Book) (h : Heap) (δ : ℕ → Side) (F : ℕ → Type 0) where
       knows = ⊑ˡ-refl (map π env);
       kept = λ q free. refl;
     }
-    raise-path {π} {env} firm reads (Ends.branch {x = x} {m = m} {c = c} {xs = xs} lt l e k rest) =
-        let S = raise-path firm reads rest in
+    raise-path {π} {env} firm reads (Steers.branch lt next) (Ends.branch {x = x} {m = m} {c = c} {xs = xs} l e k rest) =
+        let S = raise-path firm reads (next m c xs l e k) rest in
         let σ = S .to in
         let T = raise-constructor l e k (firm m c xs e k) (S .reads) in
         let τ = T .to in
@@ -138,7 +127,7 @@ module _ (B : Book) (h : Heap) (δ : ℕ → Side) (F : ℕ → Type 0) where
           above = λ q. ⊑-trans (S .above q) (T .above q);
           reads = T .reads;
           vars = vars;
-          hits = Hits.branch {ρ′ = vars} (getD-map τ env x lt ∙ is-con) k hits;
+          hits = Hits.branch {ρ′ = vars} (getD-mapped τ env x 0 bot lt ∙ is-con) k hits;
           knows = ⊑ˡ-trans {rs = vars} (S .knows) le′;
           kept = λ q free. T .kept q free ∙ S .kept q free;
         }
@@ -154,4 +143,15 @@ reads-below B h δ π reads l = leads-below B h δ Nowhere (λ q k e z. z) π (�
 -- what a reading has at a branch variable, it has at the node that the variable's arrow leads to
 pub sees : (B : Book) (h : Heap) (δ : ℕ → Side) (π : ℕ → Part) → Reads B h δ π → {ρ : List Part} {p : Part} {m : ℕ} (env : List ℕ) (x : ℕ)
     → ρ ⊑ˡ map π env → getD ρ x bot ≡ p → Leads h (getD env x 0) m → p ⊑ π m
-sees B h δ π reads env x le e l = ⊑-trans (rw e at (getD-mono le x)) (⊑-trans (getD-map-below π env x) (reads-below B h δ π reads l))
+sees B h δ π reads env x le e l = ⊑-trans (variable env x (⊑-of-eq (sym e)) π le) (reads-below B h δ π reads l)
+
+-- so a path on partial values takes the branch that the path on the heap takes, with no more than the reading has
+pub branch-taken : (B : Book) (h : Heap) (δ : ℕ → Side) (π : ℕ → Part) → Reads B h δ π → (env : List ℕ) (x : ℕ) (ts : Trees)
+    → {m c d : ℕ} {xs : List ℕ} {ρ : List Part} {ps : Parts} {e : Expr} {ρ′ : List Part}
+    → Leads h (getD env x 0) m → at h m ≡ apply c xs → B .isConstructor c ≡ true → ρ ⊑ˡ map π env → getD ρ x bot ≡ Part.con d ps
+    → Hits B (treeAt ts (B .place d)) (ρ ++ toList ps) e ρ′
+    → (ρ ++ toList ps ⊑ˡ map π (env ++ xs)) × Hits B (treeAt ts (B .place c)) (ρ ++ toList ps) e ρ′
+branch-taken B h δ π reads env x ts {m} {xs = xs} {ρ = ρ} {ps = ps} {e} {ρ′} l is k le has hits =
+    let (same, le′) = con⊑-same (⊑-trans (sees B h δ π reads env x le has l) (agrees-constructor B δ π is k .0 (reads m))) in
+    let more : toList ps ⊑ˡ map π xs = rw toList-ofList at (toList-mono le′) in
+    (rw map-append (append-mono le more), subst (λ d. Hits B (treeAt ts (B .place d)) (ρ ++ toList ps) e ρ′) same hits)

@@ -27,34 +27,15 @@ ran book asking fuel m = with-book (readBook book) refl
   where
     loading : {r : Rules} {q : Expr} {p p′ : ℕ} → readBook book ≡ got r p → readQuestion (r .symbols) asking ≡ got q p′
         → Ran book asking fuel m (runLoaded (bookOf r) fuel m (loaded q))
-    loading {r} {q} admitted asked = no-byte (eqb (length (m .bytes)) 0)
+    loading {r} {q} admitted asked =
+        refused-if (eqb (length (m .bytes)) 0) 25 (omega arith) (refused-if (ltb (roomsOf m .nodes) (length (loaded q .heap))) 21 (omega arith)
+        (refused-if (eqb (length (m .list)) 0) 23 (omega arith) (Ran.late admitted asked)))
       where
-        turned : Outcome
-        turned = endedAs m (turns (bookOf r) (roomsOf m) fuel (loaded q))
-
-        no-place : (b : Bool) → Ran book asking fuel m (elim b [ true ↦ refusedAt 23 0 m | false ↦ turned ])
-        no-place true = Ran.early 23 0 (omega arith)
-        no-place false = Ran.late admitted asked
-
-        no-node : (b : Bool) → Ran book asking fuel m (elim b [
-          | true ↦ refusedAt 21 0 m
-          | false ↦
-              elim (eqb (length (m .list)) 0) [ true ↦ refusedAt 23 0 m | false ↦ turned ]
-        ])
-        no-node true = Ran.early 21 0 (omega arith)
-        no-node false = no-place (eqb (length (m .list)) 0)
-
-        no-byte : (b : Bool) → Ran book asking fuel m (elim b [
-          | true ↦ refusedAt 25 0 m
-          | false ↦
-              elim (ltb (roomsOf m .nodes) (length (loaded q .heap))) [
-                | true ↦ refusedAt 21 0 m
-                | false ↦
-                    elim (eqb (length (m .list)) 0) [ true ↦ refusedAt 23 0 m | false ↦ turned ]
-              ]
-        ])
-        no-byte true = Ran.early 25 0 (omega arith)
-        no-byte false = no-node (ltb (roomsOf m .nodes) (length (loaded q .heap)))
+        -- one test more that may refuse the run
+        refused-if : (test : Bool) (c : ℕ) {o : Outcome} → 0 < c → Ran book asking fuel m o
+            → Ran book asking fuel m (elim test [ true ↦ refusedAt c 0 m | false ↦ o ])
+        refused-if true c lt later = Ran.early c 0 lt
+        refused-if false c lt later = later
 
     with-question : {r : Rules} {p : ℕ} → readBook book ≡ got r p → (y : Reading Expr) → readQuestion (r .symbols) asking ≡ y
         → Ran book asking fuel m (elim y [ refusal c p ↦ refusedAt c p m | got q _ ↦ runLoaded (bookOf r) fuel m (loaded q) ])

@@ -6,21 +6,21 @@ use mathlib.Core.List.{List, [], _∷_, _++_}
 use Prim.Native.Nat.{ℕ, zero, suc, _<_}
 use native.Mathlib.Omega.{arith}
 use native.Mathlib.Nat.{le-refl, not-suc-le-zero}
-use lib.ListN.{length, getD, set, length-set, length-append, List·getD-append}
+use lib.ListN.{length, getD, set, length-append, List·getD-append}
 use native.Mathlib.Decide.{decLt}
 use lib.Seq.{getD-append-add}
 use Rattle.book.specs.Rules.{Book}
 use Rattle.nodes.specs.Nodes.{Node, Heap, at}
 use Rattle.machine.specs.Made.{place, rewritten}
-use Rattle.rewriting.specs.Rewriting.{Step, Steps, Value, Reaches}
+use Rattle.rewriting.specs.Rewriting.{State, Step, Steps, Value, Reaches}
 use Rattle.rewriting.proofs.Lists.{sum, sum-append, sum-set, firsts, length-firsts, getD-firsts}
-use Rattle.rewriting.proofs.Heaps.{at-past, InRange, ChoicesBelow, choice≢fail}
+use Rattle.rewriting.proofs.Heaps.{at-past, ChoicesBelow}
 use Rattle.rewriting.proofs.Holds.{Holds, holds-of}
-use Rattle.rewriting.proofs.Kept.{rewritten-longer, rewritten-inRange, rewritten-choices}
+use Rattle.rewriting.proofs.Steers.{Lawful}
 use Rattle.meaning.specs.Partial.{Part, bot, _⊑_, bot⊑}
 use Rattle.meaning.specs.Readings.{Side, sideOf, Reads, whole, Decisions, CanBe}
 use Rattle.meaning.proofs.Order.{agrees-fail, ⊑-refl, map-mono, ⊑-of-eq, ⊑-trans, _⊑ᶠ_}
-use Rattle.meaning.proofs.Finite.{Arrow, leftSide, rightSide, Finite, rewrite-finite, choose-finite, choose-range, choose-choices}
+use Rattle.meaning.proofs.Finite.{Proper, step-proper}
 use Rattle.meaning.proofs.Measure.{AgreesIn, Read, read-at, read-append, read-set, raise-read, read-of}
 use Rattle.meaning.proofs.Fresh.{place-read}
 use Rattle.meaning.proofs.Demanded.{Redex, chosen, ruled, value}
@@ -56,23 +56,12 @@ part-grows (p ∷ ps) qs zero = ⊑-refl p
 part-grows (p ∷ ps) qs (suc m) = part-grows ps qs m
 
 -- what a step leads to: a smaller reading in which the root still has its value
-record Next (B : Book) (h : Heap) (k : ℕ) (root : ℕ) (m : Marked B h k) : Type 0 where
-  heap : Heap
-  choices : ℕ
-  step : Step B (record { heap = h; choices = k }) (record { heap = heap; choices = choices })
-  range : InRange heap
-  below : ChoicesBelow choices heap
-  ends : Finite heap root
-  there : root < length heap
-  marked : Marked B heap choices
+record Next (B : Book) (s : State) (root : ℕ) (m : Marked B (s .heap) (s .choices)) : Type 0 where
+  state : State
+  step : Step B s state
+  marked : Marked B (state .heap) (state .choices)
   smaller : sum (marked .sizes) < sum (m .sizes)
   keeps : partAt (m .parts) root ⊑ partAt (marked .parts) root
-
--- an arrow leads to each side
-pub side-arrow : (d : Side) (i x y : ℕ) → Arrow (sideOf d x y) (Node.choice i x y)
-unfolding sideOf
-side-arrow Side.left i x y = leftSide
-side-arrow Side.right i x y = rightSide
 
 -- a choice may become either side
 side-step : {B : Book} {h : Heap} {k : ℕ} (d : Side) (n : ℕ) {i x y : ℕ} → at h n ≡ Node.choice i x y
@@ -86,25 +75,17 @@ pub appended : {A : Type 0} (d : A) (pre l : List A) {n : ℕ} → length pre �
 appended d pre l e = holds-of (λ m. getD (pre ++ l) m d) d _ l (λ j lt. rw (← e) (getD-append-add pre l j d))
 
 -- the step that was found, and what it leads to
-next : {B : Book} (h : Heap) (k : ℕ) {root : ℕ} → InRange h → ChoicesBelow k h → Finite h root → root < length h → (m : Marked B h k)
-    → Redex B h (sideAt (m .sides)) (partAt (m .parts)) (sizeAt (m .sizes)) → Next B h k root m
+next : {B : Book} (h : Heap) (k root : ℕ) → ChoicesBelow k h → (m : Marked B h k)
+    → Redex B h (sideAt (m .sides)) (partAt (m .parts)) (sizeAt (m .sizes)) → Next B (record { heap = h; choices = k }) root m
 unfolding rewritten
-next {B} h k {root} range below g l m (chosen n {i} {l = x} {r = y} e z a) =
-    let t = sideOf (sideAt (m .sides) i) x y in
-    let arrow : Arrow t (at h n) = rw e (side-arrow (sideAt (m .sides) i) i x y) in
-    record {
-      heap = set h n (Node.forward t);
-      choices = k;
-      step = side-step (sideAt (m .sides) i) n e;
-      range = choose-range h n t range arrow;
-      below = choose-choices h n t k below;
-      ends = choose-finite n t range arrow (choice≢fail e) g l;
-      there = rw length-set l;
-      marked = record { sides = m .sides; parts = m .parts; sizes = set (m .sizes) n 0; used = m .used; read = read-set B _ _ n (m .read) (AgreesIn.forward a) };
-      smaller = omega (arith, sum-set (m .sizes) n 0);
-      keeps = ⊑-refl _;
-    }
-next {B} h k {root} range below g l m (ruled n {f} {t} {xs} {env} {e} is o d lt v) =
+next {B} h k root below m (chosen n {i} {l = x} {r = y} e z a) = record {
+  state = record { heap = set h n (Node.forward (sideOf (sideAt (m .sides) i) x y)); choices = k };
+  step = side-step (sideAt (m .sides) i) n e;
+  marked = record { sides = m .sides; parts = m .parts; sizes = set (m .sizes) n 0; used = m .used; read = read-set B _ _ n (m .read) (AgreesIn.forward a) };
+  smaller = omega (arith, sum-set (m .sizes) n 0);
+  keeps = ⊑-refl _;
+}
+next {B} h k root below m (ruled n {f} {t} {xs} {env} {e} is o d lt v) =
     let p = place e env (length h) k in
     let (top, rest, fits, made) = place-read B env v (length h) k in
     let parts′ : List Part = m .parts ++ made .parts in
@@ -114,13 +95,8 @@ next {B} h k {root} range below g l m (ruled n {f} {t} {xs} {env} {e} is o d lt 
     let u = made .holds (sideAt sides′) (partAt parts′) (appended bot (m .parts) (made .parts) (read-length (m .read)))
     (appended Side.left (m .sides) (made .sides) (m .used)) (map-mono le env) in
     record {
-      heap = rewritten h n p;
-      choices = p .choices;
+      state = record { heap = rewritten h n p; choices = p .choices };
       step = Step.rewrite n is o d;
-      range = rewritten-inRange h n k is d range;
-      below = rewritten-choices h n k is d below;
-      ends = rewrite-finite n k range is o d g l;
-      there = omega (arith, rewritten-longer h n k is d);
       marked = record {
         sides = sides′;
         parts = parts′;
@@ -133,18 +109,18 @@ next {B} h k {root} range below g l m (ruled n {f} {t} {xs} {env} {e} is o d lt 
     }
 
 -- by induction on the sum of the sizes
-realize : {B : Book} (h : Heap) (k : ℕ) {root : ℕ} (v : Value) (fuel : ℕ) → InRange h → ChoicesBelow k h → Finite h root → root < length h
-    → (m : Marked B h k)
-    → sum (m .sizes) < fuel → whole v ⊑ partAt (m .parts) root → Reaches B (record { heap = h; choices = k }) root v
+realize : {B : Book} {P : Heap → Type 0} (law : Lawful B P) (s : State) {root : ℕ} (v : Value) (fuel : ℕ) → Proper P s root
+    → (m : Marked B (s .heap) (s .choices))
+    → sum (m .sizes) < fuel → whole v ⊑ partAt (m .parts) root → Reaches B s root v
 unfolding Reaches
-realize h k v zero range below g l m small le = absurd (not-suc-le-zero small)
-realize {B} h k {root} v (suc fuel) range below g l m small le =
+realize law s v zero proper m small le = absurd (not-suc-le-zero small)
+realize {B} law s {root} v (suc fuel) proper m small le =
     ⊎-elim
-    (λ r. let n = next h k range below g l m r in
-    let t = realize (n .heap) (n .choices) v fuel (n .range) (n .below) (n .ends) (n .there) (n .marked) (omega (arith, n .smaller)) (⊑-trans le (n .keeps)) in
+    (λ r. let n = next (s .heap) (s .choices) root (proper .below) m r in
+    let t = realize law (n .state) v fuel (step-proper law (n .step) proper) (n .marked) (omega (arith, n .smaller)) (⊑-trans le (n .keeps)) in
     (t .0, Steps.then (n .step) (t .1), t .2))
-    (λ i. (record { heap = h; choices = k }, Steps.done, i))
-    (value B h (sideAt (m .sides)) (partAt (m .parts)) (sizeAt (m .sizes)) (read-at B _ _ (m .read)) v root g le)
+    (λ i. (s, Steps.done, i))
+    (value B (s .heap) (sideAt (m .sides)) (partAt (m .parts)) (sizeAt (m .sizes)) (read-at B _ _ (m .read)) v root (proper .ends) le)
 
 -- past the heap's end a reading has nothing
 pub first-parts : (B : Book) (δ : ℕ → Side) (h : Heap) (π : ℕ → Part) → Reads B h δ π → π ⊑ᶠ partAt (firsts (length h) π)
@@ -155,16 +131,17 @@ first-parts B δ h π agrees m = go (decLt m (length h))
     go (no l) =
         rw (agrees-fail B δ π (at-past h m (omega arith)) .0 (agrees m)) bot⊑
 
--- REALIZATION. In a heap with its arrows in range, its choice numbers used and its paths finite, a value that a node can have can
--- be reached by rewriting.
-pub realization : {B : Book} (h : Heap) (k : ℕ) {root : ℕ} {d : Decisions} {v : Value} → InRange h → ChoicesBelow k h → Finite h root
-    → root < length h
-    → CanBe B h d root v → Reaches B (record { heap = h; choices = k }) root v
-realization {B} h k {root} {d} {v} range below g l c =
+-- REALIZATION. In a state as it should be a value that a node can have can be reached by rewriting.
+pub realization : {B : Book} {P : Heap → Type 0} → Lawful B P → (s : State) {root : ℕ} {d : Decisions} {v : Value} → Proper P s root
+    → CanBe B (s .heap) d root v → Reaches B s root v
+realization {B} law s {root} {d} {v} proper c =
+    let h = s .heap in
+    let k = s .choices in
     let sides : List Side = firsts k (c .δ) in
     let parts : List Part = firsts (length h) (c .π) in
     let same : (i : ℕ) → i < k → c .δ i ≡ sideAt sides i = λ i l. sym (getD-firsts k (c .δ) i Side.left l) in
+    let grows = first-parts B (c .δ) h (c .π) (c .agrees) in
     let (sizes, read) = read-of B h (c .π) (c .agrees) in
-    realize h k v (suc (sum sizes)) range below g l
-    (record { sides = sides; parts = parts; sizes = sizes; used = length-firsts k (c .δ); read = raise-read B same (first-parts B (c .δ) h (c .π) (c .agrees)) below read })
-    (le-refl _) (⊑-trans (⊑-of-eq (sym (c .is))) (first-parts B (c .δ) h (c .π) (c .agrees) root))
+    realize law s v (suc (sum sizes)) proper
+    (record { sides = sides; parts = parts; sizes = sizes; used = length-firsts k (c .δ); read = raise-read B same grows (proper .below) read })
+    (le-refl _) (⊑-trans (⊑-of-eq (sym (c .is))) (grows root))

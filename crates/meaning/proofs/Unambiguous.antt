@@ -9,7 +9,7 @@ use Rattle.rewriting.specs.Rewriting.{State, Steps, Value, Values, con, noValue
 use Rattle.rewriting.proofs.Heaps.{InRange}
 use Rattle.sorts.specs.Sorts.{argumentsOf, HeapFits}
 use Rattle.sorts.proofs.HeapsFit.{Sorted, sorted-step}
-use Rattle.meaning.proofs.PlainReaches.{step-range}
+use Rattle.meaning.proofs.Finite.{step-range}
 use Rattle.meaning.specs.Demand3.{flatten, flattens}
 
 -- each constructor has as many arguments as its symbol has sorts

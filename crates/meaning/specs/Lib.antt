@@ -1,4 +1,3 @@
-pub mod Plain
 pub mod Records
 pub mod Demand3
 pub mod Partial

@@ -2,7 +2,7 @@
 use mathlib.Core.Bool.{true, false}
 use mathlib.Core.Path.{_≡_}
 use mathlib.Core.List.{List, [], _∷_, _++_}
-use Prim.Native.Nat.{ℕ}
+use Prim.Native.Nat.{ℕ, _+_, _≤_, _<_}
 use lib.ListN.{length, getD}
 use Rattle.expressions.specs.Expressions.{Expr, Exprs}
 use Rattle.book.specs.Trees.{Tree, Trees, treeAt}
@@ -49,19 +49,21 @@ module _ (B : Book) where
         → Hits (treeAt ts (B .place c)) (ρ ++ toList ps) e ρ′ → Hits (Tree.branch x ts) ρ e ρ′
 
   mutual
-    -- the expression e can give p, with these partial values for the variables; each choice is taken one way
-    pub data Gives : Expr → List Part → Part → Type 0 where
-      nothing : {e : Expr} {ρ : List Part} → Gives e ρ bot
-      var : {x : ℕ} {ρ : List Part} {p : Part} → p ⊑ getD ρ x bot → Gives (Expr.var x) ρ p
-      constructor : {c : ℕ} {es : Exprs} {ρ : List Part} {ps : Parts} → B .isConstructor c ≡ true → GivesRow es ρ ps
-          → Gives (Expr.apply c es) ρ (con c ps)
-      operation : {f : ℕ} {es : Exprs} {ρ : List Part} {ps : Parts} {e : Expr} {ρ′ : List Part} {p : Part}
-          → B .isConstructor f ≡ false → GivesRow es ρ ps → Hits (B .tree f) (toList ps) e ρ′ → Gives e ρ′ p → Gives (Expr.apply f es) ρ p
-      left : {a b : Expr} {ρ : List Part} {p : Part} → Gives a ρ p → Gives (Expr.choice a b) ρ p
-      right : {a b : Expr} {ρ : List Part} {p : Part} → Gives b ρ p → Gives (Expr.choice a b) ρ p
+    -- the expression e can give p, with these partial values for the variables, by a derivation of size s at most; each choice is
+    -- taken one way. What is counted are the operations rewritten and the choices taken.
+    pub data Gives : ℕ → Expr → List Part → Part → Type 0 where
+      nothing : {s : ℕ} {e : Expr} {ρ : List Part} → Gives s e ρ bot
+      var : {s x : ℕ} {ρ : List Part} {p : Part} → p ⊑ getD ρ x bot → Gives s (Expr.var x) ρ p
+      constructor : {s c : ℕ} {es : Exprs} {ρ : List Part} {ps : Parts} → B .isConstructor c ≡ true → GivesRow s es ρ ps
+          → Gives s (Expr.apply c es) ρ (con c ps)
+      operation : {s r t f : ℕ} {es : Exprs} {ρ : List Part} {ps : Parts} {e : Expr} {ρ′ : List Part} {p : Part} → r + t < s
+          → B .isConstructor f ≡ false → GivesRow r es ρ ps → Hits (B .tree f) (toList ps) e ρ′ → Gives t e ρ′ p
+          → Gives s (Expr.apply f es) ρ p
+      left : {s t : ℕ} {a b : Expr} {ρ : List Part} {p : Part} → t < s → Gives t a ρ p → Gives s (Expr.choice a b) ρ p
+      right : {s t : ℕ} {a b : Expr} {ρ : List Part} {p : Part} → t < s → Gives t b ρ p → Gives s (Expr.choice a b) ρ p
 
     -- the same of a row of expressions
-    pub data GivesRow : Exprs → List Part → Parts → Type 0 where
-      none : {ρ : List Part} → GivesRow Exprs.noExprs ρ noParts
-      more : {e : Expr} {es : Exprs} {ρ : List Part} {p : Part} {ps : Parts} → Gives e ρ p → GivesRow es ρ ps
-          → GivesRow (Exprs.moreExprs e es) ρ (moreParts p ps)
+    pub data GivesRow : ℕ → Exprs → List Part → Parts → Type 0 where
+      none : {s : ℕ} {ρ : List Part} → GivesRow s Exprs.noExprs ρ noParts
+      more : {s r t : ℕ} {e : Expr} {es : Exprs} {ρ : List Part} {p : Part} {ps : Parts} → r + t ≤ s
+          → Gives r e ρ p → GivesRow t es ρ ps → GivesRow s (Exprs.moreExprs e es) ρ (moreParts p ps)

@@ -1,4 +1,4 @@
--- The code keeps what is promised. A corollary of the contract of `evaluator::run` alone: the premise `contract` is what it ensures, of the
+-- The code keeps what is promised. A corollary of the contract of `run::run` alone: the premise `contract` is what it ensures, of the
 -- result r and of lent memory (nodes, list and answers) before and after it.
 use mathlib.Core.Path.{_≡_, refl, sym, ap, subst, _∙_}
 use mathlib.Core.Logic.{_⊎_, inl, inr}
@@ -17,7 +17,7 @@ use Rattle.meaning.specs.Demand3.{Untouched, Answered}
 use Rattle.meaning.specs.Records.{recordsIn, answersIn}
 use Rattle.meaning.proofs.Demand3.{answered, demand-3}
 use Rattle.run.specs.declared.whole.Outcome.{Outcome as CodeOutcome}
-use Rattle.evaluator.specs.Outcomes.{after}
+use Rattle.run.specs.Outcomes.{after}
 use Rattle.promises.specs.Promises.{Promises}
 
 -- what was read is read once

@@ -18,7 +18,6 @@ pub mod HeldOnce
 pub mod ValueSymbols
 pub mod DecidedNumbers
 pub mod RecordRows
-pub mod Following
 pub mod FewVariables
 pub mod SortedReady
 pub mod Applies
@@ -29,7 +28,15 @@ pub mod Answering
 pub mod Rewriting
 pub mod Stepping
 pub mod OneTurn
-pub mod Rings
 pub mod TurnKeeps
-pub mod BetweenTurns
-pub mod Loading
+pub mod RowRings
+pub mod OnTheRow
+pub mod EntryRows
+pub mod LentAgain
+pub mod LentShared
+pub mod HeldEntries
+pub mod LentArrays
+pub mod Laying
+pub mod Gathering
+pub mod Preparing
+pub mod RunEnds

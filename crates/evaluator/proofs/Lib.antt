@@ -1,4 +1,0 @@
-pub mod Again
-pub mod Held
-pub mod Laying
-pub mod Rows
