@@ -1,0 +1,1 @@
+// Theorems alone: what more fuel changes in a run, and what it does not (specs/ and proofs/).
