@@ -455,6 +455,27 @@ case('the 3,201st node, 32,010 numbers lent: only 3,200 nodes are used', (21, 0,
 case('3,200 nodes, 31,999 numbers lent: 3,199 whole nodes', (21, 0, 49, 0, 3139, 0, 1),
      Left(grown([n_apply(Z)]), [(0, {})], answers()), GROWING, fits, numbers=31999)
 
+# ---- change request L2: all children of a constructor are looked at first, and this adds no arrivals
+PAIR, NIL, ROUND = range(3)
+PAIRS = book([constructor(2), constructor(), operation()], [rule(apply(ROUND))])
+case('a pair whose first part circles and whose second has failed: the first turn ends it', (0, 0, 1, 0, 3, 0, 0),
+     Left([n_apply(PAIR, 1, 2), n_apply(ROUND), N_FAIL], [], answers()), PAIRS, asked(apply(PAIR, apply(ROUND), FAIL)), fuel=10)
+case('a pair of a choice and a fail: the fail comes first', (0, 0, 1, 0, 5, 1, 0),
+     Left([n_apply(PAIR, 1, 4), n_choice(0, 2, 3), n_apply(NIL), n_apply(NIL), N_FAIL], [], answers()),
+     PAIRS, asked(apply(PAIR, choice(apply(NIL), apply(NIL)), FAIL)), fuel=10)
+case('a pair of a circle and a choice: it is pulled up past the circle', (20, 0, 1, 0, 7, 1, 1),
+     Left([n_choice(0, 5, 6), n_apply(ROUND), n_choice(0, 3, 4), n_apply(NIL), n_apply(NIL), n_apply(PAIR, 1, 3), n_apply(PAIR, 1, 4)],
+          [(0, {})], answers()),
+     PAIRS, asked(apply(PAIR, apply(ROUND), choice(apply(NIL), apply(NIL)))), fuel=1)
+case('a pair of two choices: the leftmost is pulled up', (20, 0, 1, 0, 9, 2, 1),
+     Left([n_choice(0, 7, 8), n_choice(0, 2, 3), n_apply(NIL), n_apply(NIL), n_choice(1, 5, 6), n_apply(NIL), n_apply(NIL),
+           n_apply(PAIR, 2, 4), n_apply(PAIR, 3, 4)], [(0, {})], answers()),
+     PAIRS, asked(apply(PAIR, choice(apply(NIL), apply(NIL)), choice(apply(NIL), apply(NIL)))), fuel=1)
+# the last of 255 S below the first has the fail as its child: it is seen from there, with no arrival 256 arrows down
+case('a fail 256 arrows down: the first look adds no arrival', (0, 0, 6, 0, 257, 0, 0),
+     Left(chained([n_apply(S, 1)] + [None] * 5 + [N_FAIL], 1, [51] * 5), [], answers()),
+     VALUES, asked(apply(S, times(F51, 5, FAIL))))
+
 # ---- the archive's example, with the fuel that its file has; README.md says what its six answers mean
 dolly = open(os.path.join(repository, 'examples', 'corn-dollies'), 'rb').read()
 end = 2 + int.from_bytes(dolly[:2], 'big')

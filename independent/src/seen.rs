@@ -45,10 +45,12 @@ pub const STEPS: &[&str] = &[
     "rewrite",
     "one-variable forward rewrite",
     "pull-up through a constructor, as a child",
+    "pull-up through a constructor, as a child behind another",
     "pull-up through a constructor, in a branch",
     "pull-up through an operation",
     "operation made a fail by a failed branch variable",
     "entry ends by a failed child",
+    "entry ends by a failed child behind another",
     "answer written",
 ];
 

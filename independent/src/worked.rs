@@ -232,3 +232,27 @@ mod at_the_edges {
         assert_eq!((outcome.number, outcome.waiting), (23, 64));
     }
 }
+
+/// Change request L2. Symbols: 0 pair of two, 1 nil, 2 loop.
+const PAIRS: &str = "01 000B 0400000000 020000 020100 0006 0004 01010002";
+
+#[test]
+fn a_failed_part_ends_its_line_of_thought() {
+    // pair of loop and fail: the fail is seen at once, in the first turn
+    let (outcome, _) = run_book(&bytes(PAIRS), &bytes("01 0008 00 010000 010002 03"), 10, 10, 4, 100);
+    assert_eq!(outcome, of(0, 0, [1, 0, 3, 0, 0]));
+    // pair of (nil or nil) and fail: the fail comes before the choice
+    let (outcome, _) = run_book(&bytes(PAIRS), &bytes("01 000C 00 010000 02 010001 010001 03"), 10, 10, 4, 100);
+    assert_eq!(outcome, of(0, 0, [1, 0, 5, 1, 0]));
+}
+
+#[test]
+fn the_leftmost_choice_is_pulled_up_past_what_is_unfinished() {
+    // pair of loop and (nil or nil): two fresh nodes in the first turn
+    let question = bytes("01 000E 00 010000 010002 02 010001 010001");
+    let (outcome, memory) = run_book(&bytes(PAIRS), &question, 1, 10, 4, 100);
+    assert_eq!(outcome, of(20, 0, [1, 0, 7, 1, 1]));
+    assert_eq!(memory.nodes[..4], [1, 0, 5, 6]);
+    assert_eq!(memory.nodes[50..54], [0, 0, 1, 3]);
+    assert_eq!(memory.nodes[60..64], [0, 0, 1, 4]);
+}
