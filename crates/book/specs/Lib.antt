@@ -4,3 +4,4 @@ pub mod Rules
 pub mod Admission
 pub mod Index
 pub mod Reader
+pub mod TreesRead

@@ -1,16 +1,17 @@
 // The tree part. `ends` gets, at the place of each tree, the place behind it: a run hops from tree to tree by it.
 ghost use mathlib.Core.Bool.{false};
-ghost use mathlib.Core.List.{List, _++_};
+ghost use mathlib.Core.List.{List};
 ghost use mathlib.Core.Path.{_≡_};
 ghost use Prim.Native.Nat.{ℕ, _+_, _<_, _≤_};
-ghost use lib.ListN.{length, drop, getD, replicate};
+ghost use lib.ListN.{length, getD, replicate};
 ghost use Rattle.limits.specs.Sizes.{mostBookBytes, mostSymbols, mostVariables};
 ghost use Rattle.reading.specs.Answer.{readingOf, keeping, nothing};
-ghost use Rattle.symbols.specs.Symbols.{symbolOf, constructorsOf};
-ghost use Rattle.symbols.specs.Table.{symbolsIn, symbolIn};
+ghost use Rattle.symbols.specs.Symbols.{constructorsOf};
+ghost use Rattle.symbols.specs.Table.{symbolsIn};
 ghost use Rattle.expressions.specs.ExpressionAt.{leftOf, wholeAt};
-ghost use Rattle.book.specs.TreeAt.{bindsPast, treesWith, branchedAt, treeIn, itemAt, treesOf, treePart};
-ghost use Rattle.book.specs.Reader.{Chained, varsOf, Branched, FewArguments, Marked, MarkedRow, Indexed, handedOn, markedBy, Inside};
+ghost use Rattle.book.specs.TreeAt.{bindsPast, branchedAt};
+ghost use Rattle.book.specs.Reader.{varsOf, Branched, FewArguments, handedOn, markedBy, Inside};
+ghost use Rattle.book.specs.TreesRead.{Tabled, CasesFit, TreeRead, CasesRead, ItemRead, TreesRead, PartRead};
 use super::path::Path;
 use expressions::read_whole;
 use limits::Limits;
@@ -48,7 +49,7 @@ fn binds_past(
     sort: u8,
     bound: usize,
 ) -> bool
-    requires { ⌜ (bound ≤ mostVariables) × (length (now at) ≤ mostSymbols) × Chained (symbolsIn (now book) (now at)) (now next) (now first) ⌝ }
+    requires { ⌜ (bound ≤ mostVariables) × Tabled (now book) (now at) (now next) (now first) ⌝ }
     ensures { λ r. ⌜ r ≡ bindsPast bound (constructorsOf sort (symbolsIn (now (book .entry)) (now (at .entry)))) ⌝ }
 {
     let mut f = first_of(first, sort) as usize;
@@ -71,7 +72,7 @@ fn read_branched(
     path: Path,
     p: usize,
 ) -> Reading
-    requires { ⌜ (path .bound ≤ mostVariables) × (length (now at) ≤ mostSymbols) × Chained (symbolsIn (now book) (now at)) (now next) (now first) ⌝ }
+    requires { ⌜ (path .bound ≤ mostVariables) × Tabled (now book) (now at) (now next) (now first) ⌝ }
     ensures { λ r. ⌜ ((sort : ℕ) (done : List ℕ) → Branched path done → readingOf r ≡ branchedAt (now (book .entry)) (symbolsIn (now (book .entry)) (now (at .entry))) sort e (varsOf path) done p) ⌝ }
 {
     match byte_at(book, Asker::Book, e, p) {
@@ -143,8 +144,8 @@ fn read_tree(
     ends: &mut [u16; Limits::BOOK],
     p: usize,
 ) -> Reading
-    requires { ⌜ (path .bound ≤ mostVariables) × (e ≤ length (now book)) × (e ≤ mostBookBytes) × (length (now at) ≤ mostSymbols) × Chained (symbolsIn (now book) (now at)) (now next) (now first) ⌝ }
-    ensures { λ r. ⌜ ((done : List ℕ) → Branched path done → (readingOf r ≡ keeping nothing (treeIn (now (book .entry)) (symbolsIn (now (book .entry)) (now (at .entry))) sort e depth (varsOf path) done p)) × Marked p (treeIn (now (book .entry)) (symbolsIn (now (book .entry)) (now (at .entry))) sort e depth (varsOf path) done p) (now (ends .entry)) (now (ends .exit))) ⌝ }
+    requires { ⌜ (path .bound ≤ mostVariables) × (e ≤ length (now book)) × (e ≤ mostBookBytes) × Tabled (now book) (now at) (now next) (now first) ⌝ }
+    ensures { λ r. ⌜ TreeRead (now (book .entry)) (now (at .entry)) sort e depth path p r (now (ends .entry)) (now (ends .exit)) ⌝ }
 {
     if depth == 0 {
         return Reading::Refusal {
@@ -216,8 +217,8 @@ fn read_cases(
     ends: &mut [u16; Limits::BOOK],
     from: usize,
 ) -> Reading
-    requires { ⌜ (path .bound ≤ mostVariables) × (e ≤ length (now book)) × (e ≤ mostBookBytes) × (length (now at) ≤ mostSymbols) × Chained (symbolsIn (now book) (now at)) (now next) (now first) × (bindsPast (path .bound) (constructorsOf branch (symbolsIn (now book) (now at))) ≡ false) ⌝ }
-    ensures { λ r. ⌜ ((done : List ℕ) → Branched path done → (readingOf r ≡ keeping nothing (treesWith (now (book .entry)) (symbolsIn (now (book .entry)) (now (at .entry))) sort e (λ (sorts : List ℕ) (q : ℕ). treeIn (now (book .entry)) (symbolsIn (now (book .entry)) (now (at .entry))) sort e depth (varsOf path ++ sorts) done q) (constructorsOf branch (symbolsIn (now (book .entry)) (now (at .entry)))) from)) × MarkedRow from (treesWith (now (book .entry)) (symbolsIn (now (book .entry)) (now (at .entry))) sort e (λ (sorts : List ℕ) (q : ℕ). treeIn (now (book .entry)) (symbolsIn (now (book .entry)) (now (at .entry))) sort e depth (varsOf path ++ sorts) done q) (constructorsOf branch (symbolsIn (now (book .entry)) (now (at .entry)))) from) (now (ends .entry)) (now (ends .exit))) ⌝ }
+    requires { ⌜ (path .bound ≤ mostVariables) × (e ≤ length (now book)) × (e ≤ mostBookBytes) × Tabled (now book) (now at) (now next) (now first) × CasesFit (now book) (now at) path branch ⌝ }
+    ensures { λ r. ⌜ CasesRead (now (book .entry)) (now (at .entry)) sort e depth path branch from r (now (ends .entry)) (now (ends .exit)) ⌝ }
 {
     let mut p = from;
     let mut f = first_of(first, branch) as usize;
@@ -250,8 +251,8 @@ fn read_item(
     ends: &mut [u16; Limits::BOOK],
     p: usize,
 ) -> Reading
-    requires { ⌜ (e ≤ length (now book)) × (e ≤ mostBookBytes) × (length (now at) ≤ mostSymbols) × Chained (symbolsIn (now book) (now at)) (now next) (now first) × (f < length (now at)) × FewArguments (symbolsIn (now book) (now at)) ⌝ }
-    ensures { λ r. ⌜ (readingOf r ≡ keeping nothing (itemAt (now (book .entry)) (symbolsIn (now (book .entry)) (now (at .entry))) e (symbolIn (now (book .entry)) (getD (now (at .entry)) f 0)) p)) × Marked (p + 2) (itemAt (now (book .entry)) (symbolsIn (now (book .entry)) (now (at .entry))) e (symbolIn (now (book .entry)) (getD (now (at .entry)) f 0)) p) (now (ends .entry)) (now (ends .exit)) ⌝ }
+    requires { ⌜ (e ≤ length (now book)) × (e ≤ mostBookBytes) × Tabled (now book) (now at) (now next) (now first) × (f < length (now at)) × FewArguments (symbolsIn (now book) (now at)) ⌝ }
+    ensures { λ r. ⌜ ItemRead (now (book .entry)) (now (at .entry)) e f p r (now (ends .entry)) (now (ends .exit)) ⌝ }
 {
     match length_at(book, Asker::Book, e, p) {
         Reading::Refusal { number, place } => Reading::Refusal { number, place },
@@ -307,8 +308,8 @@ fn read_trees(
     info: &mut [u16; Limits::SYMBOLS],
     ends: &mut [u16; Limits::BOOK],
 ) -> Reading
-    requires { ⌜ (e ≤ length (now book)) × (e ≤ mostBookBytes) × (length (now at) ≤ mostSymbols) × Chained (symbolsIn (now book) (now at)) (now next) (now first) × FewArguments (symbolsIn (now book) (now at)) ⌝ }
-    ensures { λ r. ⌜ (readingOf r ≡ keeping nothing (treesOf (now (book .entry)) (symbolsIn (now (book .entry)) (now (at .entry))) e (drop f (symbolsIn (now (book .entry)) (now (at .entry)))) p)) × Indexed p f (drop f (symbolsIn (now (book .entry)) (now (at .entry)))) (treesOf (now (book .entry)) (symbolsIn (now (book .entry)) (now (at .entry))) e (drop f (symbolsIn (now (book .entry)) (now (at .entry)))) p) (now (info .entry)) (now (info .exit)) (now (ends .entry)) (now (ends .exit)) ⌝ }
+    requires { ⌜ (e ≤ length (now book)) × (e ≤ mostBookBytes) × Tabled (now book) (now at) (now next) (now first) × FewArguments (symbolsIn (now book) (now at)) ⌝ }
+    ensures { λ r. ⌜ TreesRead (now (book .entry)) (now (at .entry)) e f p r (now (info .entry)) (now (info .exit)) (now (ends .entry)) (now (ends .exit)) ⌝ }
 {
     if at.len() <= f {
         return Reading::Got { value: 0, next: p };
@@ -345,8 +346,8 @@ pub(crate) fn read_tree_part(
     p: usize,
     ranks: [u16; Limits::SYMBOLS],
 ) -> TreePart
-    requires { ⌜ (length (now book) ≤ mostBookBytes) × (length (now at) ≤ mostSymbols) × Chained (symbolsIn (now book) (now at)) (now next) (now first) × FewArguments (symbolsIn (now book) (now at)) ⌝ }
-    ensures { λ r. ⌜ (readingOf (r .reading) ≡ keeping nothing (treePart (now (book .entry)) (symbolsIn (now (book .entry)) (now (at .entry))) p)) × Indexed (p + 2) 0 (symbolsIn (now (book .entry)) (now (at .entry))) (treePart (now (book .entry)) (symbolsIn (now (book .entry)) (now (at .entry))) p) ranks (r .info) (replicate 32768 0) (r .ends) ⌝ }
+    requires { ⌜ (length (now book) ≤ mostBookBytes) × Tabled (now book) (now at) (now next) (now first) × FewArguments (symbolsIn (now book) (now at)) ⌝ }
+    ensures { λ r. ⌜ PartRead (now (book .entry)) (now (at .entry)) p (r .reading) ranks (r .info) (replicate 32768 0) (r .ends) ⌝ }
 {
     let mut info = ranks;
     let mut ends = [0u16; Limits::BOOK];
@@ -367,8 +368,8 @@ fn read_all(
     info: &mut [u16; Limits::SYMBOLS],
     ends: &mut [u16; Limits::BOOK],
 ) -> Reading
-    requires { ⌜ (length (now book) ≤ mostBookBytes) × (length (now at) ≤ mostSymbols) × Chained (symbolsIn (now book) (now at)) (now next) (now first) × FewArguments (symbolsIn (now book) (now at)) ⌝ }
-    ensures { λ r. ⌜ (readingOf r ≡ keeping nothing (treePart (now (book .entry)) (symbolsIn (now (book .entry)) (now (at .entry))) p)) × Indexed (p + 2) 0 (symbolsIn (now (book .entry)) (now (at .entry))) (treePart (now (book .entry)) (symbolsIn (now (book .entry)) (now (at .entry))) p) (now (info .entry)) (now (info .exit)) (now (ends .entry)) (now (ends .exit)) ⌝ }
+    requires { ⌜ (length (now book) ≤ mostBookBytes) × Tabled (now book) (now at) (now next) (now first) × FewArguments (symbolsIn (now book) (now at)) ⌝ }
+    ensures { λ r. ⌜ PartRead (now (book .entry)) (now (at .entry)) p r (now (info .entry)) (now (info .exit)) (now (ends .entry)) (now (ends .exit)) ⌝ }
 {
     match length_at(book, Asker::Book, book.len(), p) {
         Reading::Refusal { number, place } => Reading::Refusal { number, place },

@@ -1,13 +1,11 @@
 // Answer records.
 ghost use mathlib.Core.Path.{_≡_};
-ghost use Prim.Native.Nat.{ℕ, suc, _+_, _*_, _<_, _≤_};
-ghost use lib.ListN.{length, drop};
-ghost use Rattle.limits.specs.Sizes.{mostDepth};
+ghost use Prim.Native.Nat.{_+_, _*_, _<_, _≤_};
+ghost use lib.ListN.{length};
 ghost use Rattle.limits.specs.Decisions.{Decisions as Sides, decided};
-ghost use Rattle.nodes.specs.Nodes.{Heap, at, arguments};
-ghost use Rattle.machine.specs.Answers.{rowFrom, symbolsFrom, decisionNumbers, twoBytes, twoBytesEach, recordBytes};
-ghost use Rattle.run.specs.ExpressionIn.{arityBy};
-ghost use Rattle.run.specs.Held.{Held, Decided, writtenAt};
+ghost use Rattle.machine.specs.Answers.{decisionNumbers, twoBytes, twoBytesEach};
+ghost use Rattle.run.specs.Held.{Decided, writtenAt};
+ghost use Rattle.run.specs.AnswerContracts.{SymbolsAsked, SymbolsTold, RowAsked, RowTold, RecordAsked, RecordTold};
 use super::walk::wide;
 use limits::Decisions;
 use limits::Limits;
@@ -39,8 +37,8 @@ fn put_symbols(
     arrow: u16,
     p: usize,
 ) -> usize
-    requires { ⌜ ((h : Heap) × Held (arityBy (now book) (now table)) (now nodes) used h × (arrow < used) × (p + 2 * length (symbolsFrom depth h arrow) ≤ length (now bytes))) ⌝ }
-    ensures { λ r. ⌜ ((h : Heap) → Held (arityBy (now (book .entry)) (now (table .entry))) (now (nodes .entry)) used h → (r ≡ p + 2 * length (symbolsFrom depth h arrow)) × (now (bytes .exit) ≡ writtenAt (now (bytes .entry)) p (twoBytesEach (symbolsFrom depth h arrow)))) ⌝ }
+    requires { ⌜ SymbolsAsked (now book) (now table) (now nodes) used (now bytes) depth arrow p ⌝ }
+    ensures { λ r. ⌜ SymbolsTold (now (book .entry)) (now (table .entry)) (now (nodes .entry)) used (now (bytes .entry)) depth arrow p r (now (bytes .exit)) ⌝ }
 {
     if depth == 0 {
         return p;
@@ -78,8 +76,8 @@ fn put_row(
     arity: usize,
     p: usize,
 ) -> usize
-    requires { ⌜ ((h : Heap) × Held (arityBy (now book) (now table)) (now nodes) used h × (n < used) × (arity ≡ length (arguments (at h n))) × (p + 2 * length (rowFrom (symbolsFrom depth h) (drop j (arguments (at h n)))) ≤ length (now bytes))) ⌝ }
-    ensures { λ r. ⌜ ((h : Heap) → Held (arityBy (now (book .entry)) (now (table .entry))) (now (nodes .entry)) used h → (r ≡ p + 2 * length (rowFrom (symbolsFrom depth h) (drop j (arguments (at h n))))) × (now (bytes .exit) ≡ writtenAt (now (bytes .entry)) p (twoBytesEach (rowFrom (symbolsFrom depth h) (drop j (arguments (at h n))))))) ⌝ }
+    requires { ⌜ RowAsked (now book) (now table) (now nodes) used (now bytes) depth n j arity p ⌝ }
+    ensures { λ r. ⌜ RowTold (now (book .entry)) (now (table .entry)) (now (nodes .entry)) used (now (bytes .entry)) depth n j p r (now (bytes .exit)) ⌝ }
 {
     if arity <= j {
         return p;
@@ -125,8 +123,8 @@ pub(crate) fn put_record(
     size: usize,
     p: usize,
 )
-    requires { ⌜ ((h : Heap) × (sides : Sides) × Held (arityBy (now book) (now table)) (now nodes) used h × Decided (ds .words) sides × (root < used) × (symbols ≡ length (symbolsFrom (suc mostDepth) h root)) × (size ≡ 4 + 2 * symbols + 2 * decided sides) × (size < 65536) × (p + size ≤ length (now bytes))) ⌝ }
-    ensures { λ _. ⌜ ((h : Heap) (sides : Sides) → Held (arityBy (now (book .entry)) (now (table .entry))) (now (nodes .entry)) used h → Decided (ds .words) sides → now (bytes .exit) ≡ writtenAt (now (bytes .entry)) p (recordBytes (record { symbols = symbolsFrom (suc mostDepth) h root; decisions = sides }))) ⌝ }
+    requires { ⌜ RecordAsked (now book) (now table) (now nodes) used (now bytes) root ds symbols size p ⌝ }
+    ensures { λ _. ⌜ RecordTold (now (book .entry)) (now (table .entry)) (now (nodes .entry)) used (now (bytes .entry)) root ds p (now (bytes .exit)) ⌝ }
 {
     put_two(bytes, p, size - 2);
     put_two(bytes, p + 2, symbols);

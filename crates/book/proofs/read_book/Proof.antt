@@ -61,7 +61,11 @@ read-tree-part-requires : tie.Need-read-tree-part-requires
 read-tree-part-requires c κs =
     let read = c .before .before .before .before .before .before .before .before .before .before .before in
     let known = kept read (c .before .before .before .before .before .before .before .before .before .reading2 .given .1) in
-    rw sub-zero (known .size, simp length-take (omega (arith, known .few, known .long)), rw (known .means) (known .chained), rw (known .means) (known .fewArguments))
+    rw sub-zero (
+      known .size,
+      record { few = simp length-take (omega (arith, known .few, known .long)); chained = rw (known .means) (known .chained) },
+      rw (known .means) (known .fewArguments),
+    )
 
 enum-known-r : tie.Need-enum-known-r
 enum-known-r c = search needs

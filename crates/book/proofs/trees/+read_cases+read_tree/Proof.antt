@@ -112,9 +112,9 @@ read-cases-loop-holds : (t : ℕ) → read-cases-lts.Need-loop-holds (read-cases
 read-cases-loop-holds t c =
     let s = c .before .before .before in
     let a = s .args in
-    let to = rw (sym (c .first-of .ensures)) at (chain-first (a .book .now) (a .at .now) (a .branch) (s .pre .1 .4) (omega arith)) in (
+    let to = rw (sym (c .first-of .ensures)) at (chain-first (a .book .now) (a .at .now) (a .branch) (s .pre .1 .3 .chained) (omega arith)) in (
       to .on,
-      ap (bindsPast (a .path .bound)) (to .same) ∙ s .pre .1 .5,
+      ap (bindsPast (a .path .bound)) (to .same) ∙ s .pre .1 .4,
       λ done flags. cases-first (a .book .now) (a .at .now) (a .sort) (a .e) (a .depth) (varsOf (a .path)) done (a .branch) (a .from) (a .ends .now) to,
     )
 
@@ -138,7 +138,7 @@ read-cases-read-tree-requires t c κs =
     let turn = c .before .before .before in
     let s = turn .before .before .before .before .before in
     let arguments = ap length (c .before .before .arguments-of .ensures .0) in
-    (omega arith, (omega (arith, read-cases-fits t turn, arguments, c .before .binding .ensures .1), omega arith, omega arith, s .pre .1 .3, s .pre .1 .4))
+    (omega arith, (omega (arith, read-cases-fits t turn, arguments, c .before .binding .ensures .1), omega arith, omega arith, s .pre .1 .3))
 
 read-cases-enum-known-number : (t : ℕ) → read-cases-lts.Need-enum-known-number (read-cases-claims t) (read-cases-at t) read-cases.Post read-cases-Inv-loop read-cases-μ-loop
 read-cases-enum-known-number t c = search needs
@@ -163,7 +163,9 @@ read-cases-enum-known-behind : (t : ℕ) → read-cases-lts.Need-enum-known-behi
 read-cases-enum-known-behind t c = search needs
 
 read-cases-next-of-requires : (t : ℕ) → read-cases-lts.Need-next-of-requires (read-cases-claims t) (read-cases-at t) read-cases.Post read-cases-Inv-loop read-cases-μ-loop
-read-cases-next-of-requires t c κs = search needs
+read-cases-next-of-requires t c κs =
+    let turn = c .before .before .before .before .before .before .before in
+    omega (arith, turn .loop-test .taken, turn .before .before .before .before .before .pre .1 .3 .few)
 
 -- the chain goes on
 read-cases-goes-on : (t : ℕ) (c : read-cases-lts.After-next-of (read-cases-claims t) (read-cases-at t) read-cases.Post read-cases-Inv-loop read-cases-μ-loop)
@@ -175,7 +177,7 @@ read-cases-goes-on t c =
     let l = turn .before .loop in
     let s = turn .before .before .before .before .before in
     let a = s .args in
-    rw (c .next-of .ensures) (chain-next (a .book .now) (a .at .now) (a .branch) (s .pre .1 .4) (l .f) (turn .loop-test .taken) (l .inv .0))
+    rw (c .next-of .ensures) (chain-next (a .book .now) (a .at .now) (a .branch) (s .pre .1 .3 .chained) (l .f) (turn .loop-test .taken) (l .inv .0))
 
 read-cases-cast-f-2 : (t : ℕ) → read-cases-lts.Need-cast-f-2 (read-cases-claims t) (read-cases-at t) read-cases.Post read-cases-Inv-loop read-cases-μ-loop
 read-cases-cast-f-2 t c = search needs
@@ -320,7 +322,7 @@ read-tree-read-cases-requires t c κs =
     let deep = c .before .before .before .before .before .before .before .before .before .before .before .before in
     let s = deep .before .before .before in
     let fits = read-tree-fitting t (c .before .before .before) .fits in
-    (omega (arith, deep .if1 .left, s .pre .0), (omega (arith, path .1, s .pre .1 .0), s .pre .1 .1, s .pre .1 .2, s .pre .1 .3, s .pre .1 .4, rw (path .1) fits))
+    (omega (arith, deep .if1 .left, s .pre .0), (omega (arith, path .1, s .pre .1 .0), s .pre .1 .1, s .pre .1 .2, s .pre .1 .3, rw (path .1) fits))
 
 read-tree-mark-requires-3 : (t : ℕ) → read-tree-lts.Need-mark-requires-3 (read-tree-claims t) (read-tree-at t) read-tree.Post
 unfolding Branched

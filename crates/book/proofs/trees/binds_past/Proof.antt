@@ -25,7 +25,7 @@ loop-holds : tie.Need-loop-holds Inv-loop μ-loop
 loop-holds c =
     let s = c .before .before .before in
     let a = s .args in
-    let to = rw (sym (c .first-of .ensures)) at (chain-first (a .book .now) (a .at .now) (a .sort) (s .pre .2) (omega arith)) in
+    let to = rw (sym (c .first-of .ensures)) at (chain-first (a .book .now) (a .at .now) (a .sort) (s .pre .1 .chained) (omega arith)) in
     (to .on, ap (bindsPast (a .bound)) (to .same))
 
 arity-of-requires : tie.Need-arity-of-requires Inv-loop μ-loop
@@ -53,7 +53,7 @@ goes-on c =
     let l = turn .before .loop in
     let s = turn .before .before .before .before .before in
     let a = s .args in
-    rw (c .next-of .ensures) (chain-next (a .book .now) (a .at .now) (a .sort) (s .pre .2) (l .f) (turn .loop-test .taken) (l .inv .0))
+    rw (c .next-of .ensures) (chain-next (a .book .now) (a .at .now) (a .sort) (s .pre .1 .chained) (l .f) (turn .loop-test .taken) (l .inv .0))
 
 cast-f-2 : tie.Need-cast-f-2 Inv-loop μ-loop
 cast-f-2 c = search needs

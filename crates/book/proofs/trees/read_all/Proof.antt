@@ -26,7 +26,7 @@ read-trees-requires c κs =
     let s = c .before .before .before .before .before .before .before .before in
     let opened = sym (ap readingOf (c .before .before .before .e .given .1)) ∙ c .before .before .before .before .before .length-at .ensures in
     let within = good-got (length-good (s .args .book .now) 0 (length (s .args .book .now)) (s .args .p)) (sym opened) in
-    (within .2, omega (arith, within .2, s .pre .0), s .pre .1, s .pre .2, s .pre .3)
+    (within .2, omega (arith, within .2, s .pre .0), s .pre .1, s .pre .2)
 
 -- what is told of the trees, by the answer of their reader
 trees-listed : (c : tie.After-read-trees) {r : Reading ℕ} → readingOf (c .read-trees .result) ≡ r

@@ -52,7 +52,7 @@ arguments-of-requires c κs = search needs
 binding-requires : tie.Need-binding-requires
 binding-requires c κs =
     let s = c .before .before .before .before .before .before .before .before in
-    let few = few-there (s .args .book .now) (s .args .at .now) (s .args .f) (s .pre .4) (s .pre .5) in
+    let few = few-there (s .args .book .now) (s .args .at .now) (s .args .f) (s .pre .3) (s .pre .4) in
     omega (arith, few, c .before .empty .ensures .0, ap length (c .arguments-of .ensures .0))
 
 sort-of-requires : tie.Need-sort-of-requires
@@ -66,7 +66,7 @@ read-tree-requires c κs =
     let bound = c .before .before in
     let item = bound .before .before .before .before in
     let s = item .before .before .before .before .before in
-    let few = few-there (s .args .book .now) (s .args .at .now) (s .args .f) (s .pre .4) (s .pre .5) in
+    let few = few-there (s .args .book .now) (s .args .at .now) (s .args .f) (s .pre .3) (s .pre .4) in
     let arguments = ap length (bound .before .arguments-of .ensures .0) in
     let opened = sym (ap readingOf (item .item .given .1)) ∙ item .before .before .length-at .ensures in
     let within = good-got (length-good (s .args .book .now) 0 (s .args .e) (s .args .p)) (sym opened) in (
@@ -74,7 +74,6 @@ read-tree-requires c κs =
       omega (arith, within .2, s .pre .0),
       omega (arith, within .2, s .pre .1),
       s .pre .2,
-      s .pre .3,
     )
 
 -- what is told of the operation's tree, by the answer of its reader
