@@ -1,1 +1,2 @@
 pub mod MoreFuel
+pub mod NobodyStarves
