@@ -26,7 +26,7 @@ const SPECIALS: &[(&str, Special, usize)] = &[
     ("nodes and choices", special::nodes_and_choices, 3),
     ("many choices", special::many_choices, 2),
     ("many entries", special::many_entries, 3),
-    ("deep", special::deep, 3),
+    ("deep", special::deep, 4),
     ("deep branch", special::deep_branch, 3),
     ("many arrivals", special::many_arrivals, 3),
     ("many answer bytes", special::many_answer_bytes, 3),
