@@ -29,8 +29,11 @@ use Rattle.fuel.proofs.InTime.{Heard, heard-in-time}
 stays-heard : (v : Value) {k : ℕ} {o o′ : Outcome} → MoreFuel k o o′ → Written v o ⊎ Refused o → Written v o′ ⊎ Refused o′
 stays-heard v {o} {o′} more (inl (i, lt, is)) =
     let (new, added) = more .firstAnswers in
-    inl (i, omega (arith, ap length added, length-append (records o) new),
-    ap (λ l. answerAt l i .symbols) added ∙ ap (λ a. a .symbols) (List·getD-append (records o) new _ i lt) ∙ is)
+    inl (
+      i,
+      omega (arith, ap length added, length-append (records o) new),
+      ap (λ l. answerAt l i .symbols) added ∙ ap (λ a. a .symbols) (List·getD-append (records o) new _ i lt) ∙ is,
+    )
 stays-heard v more (inr (lt, le)) = inr (rw (more .otherStays (λ spent. omega (arith, spent))) (lt, le))
 
 module _ (book question : List ℕ) (m : Memory) {rules : Rules} {x : Expr} {p q : ℕ} (admitted : readBook book ≡ got rules p)
