@@ -4,7 +4,7 @@ use mathlib.Core.List.{List}
 use mathlib.Core.Path.{_≡_}
 use Prim.Native.Nat.{ℕ, _≤_, _<_}
 use lib.ListN.{length, getD, set, take}
-use Rattle.limits.specs.Sizes.{mostVariables, mostArguments}
+use Rattle.limits.specs.Sizes.{mostBookBytes, mostVariables, mostArguments}
 use Rattle.reading.specs.Reading.{Reading, got, refusal}
 use Rattle.reading.specs.declared.Reading.{Reading as Answered}
 use Rattle.reading.specs.declared.Reading.the-variants.{Got, Refusal}
@@ -58,5 +58,5 @@ markedBy (Refusal number place) p ends = ends
 
 -- the place behind is one of the book's
 abbrev pub Inside : Answered → Type 0
-Inside (Got value next) = next ≤ 32768
+Inside (Got value next) = next ≤ mostBookBytes
 Inside (Refusal number place) = Unit {0}

@@ -3,6 +3,7 @@ ghost use mathlib.Core.Path.{_≡_};
 ghost use Prim.Native.Nat.{_≤_};
 ghost use mathlib.Core.List.{[]};
 ghost use lib.ListN.{length, replicate};
+ghost use Rattle.limits.specs.Sizes.{mostBookBytes};
 ghost use Rattle.reading.specs.declared.Reading.the-variants.{Refusal};
 ghost use Rattle.reading.specs.Answer.{readingOf, keeping, nothing};
 ghost use Rattle.symbols.specs.Table.{symbolsIn, inArray};
@@ -35,7 +36,7 @@ pub struct BookIndex {
 }
 
 fn refused(number: u8, place: usize) -> BookIndex
-    ensures { λ r. ⌜ (r .reading ≡ Refusal number place) × (r .at ≡ inArray []) × (r .info ≡ inArray []) × (r .ends ≡ replicate 32768 0) ⌝ }
+    ensures { λ r. ⌜ (r .reading ≡ Refusal number place) × (r .at ≡ inArray []) × (r .info ≡ inArray []) × (r .ends ≡ replicate mostBookBytes 0) ⌝ }
 {
     BookIndex {
         reading: Reading::Refusal { number, place },

@@ -347,7 +347,7 @@ pub(crate) fn read_tree_part(
     ranks: [u16; Limits::SYMBOLS],
 ) -> TreePart
     requires { ⌜ (length (now book) ≤ mostBookBytes) × Tabled (now book) (now at) (now next) (now first) × FewArguments (symbolsIn (now book) (now at)) ⌝ }
-    ensures { λ r. ⌜ PartRead (now (book .entry)) (now (at .entry)) p (r .reading) ranks (r .info) (replicate 32768 0) (r .ends) ⌝ }
+    ensures { λ r. ⌜ PartRead (now (book .entry)) (now (at .entry)) p (r .reading) ranks (r .info) (replicate mostBookBytes 0) (r .ends) ⌝ }
 {
     let mut info = ranks;
     let mut ends = [0u16; Limits::BOOK];
