@@ -120,6 +120,7 @@ case('3 kind 2: its byte', hx('01 0003 020200 0000'), D, 3, 4)
 case('3 result sort 64: its byte', hx('01 0003 020040 0000'), D, 3, 5)
 case('0 result sort 63', book([symbol(0, 63)], []), asked(63, apply(0)), 0, 0)
 case('3 argument sort 64: its byte, the second argument', hx('01 0005 0400000040 0000'), D, 3, 7)
+case('0 argument sort 63', book([symbol(0, 63), symbol(0, 0, 63)], []), asked(0, apply(1, apply(0))), 0, 0)
 case('3 kind before sort: front to back', hx('01 0003 020240 0000'), D, 3, 4)
 case('3 a bad symbol before the tree part\'s length', hx('01 0003 020200 0009'), D, 3, 4)
 thousand = [symbol(0, 0)] * 1024

@@ -230,6 +230,16 @@ case('no choice, list of 1 place', (0, 0, 2, 1, 3, 0, 0),
      Left([n_apply(FALSE), n_apply(TRUE), n_apply(TRUE)], [], answers(record([FALSE], {}))),
      SMALL, asked(apply(XOR, apply(TRUE), apply(TRUE))), fuel=10, places=1)
 
+# ---- document 01's other two worked runs
+# The first turn splits choice 0 of loop (node 1) and False (node 2); then loop is rewritten to itself and waits behind False, which the third
+# turn writes; loop takes the seven turns that are left.
+case('loop or False, fuel 10', (20, 0, 10, 1, 3, 1, 1),
+     Left([n_choice(0, 1, 2), n_apply(LOOP), n_apply(FALSE)], [(1, {0: LEFT})], answers(record([FALSE], {0: RIGHT}))),
+     SMALL, asked(choice(apply(LOOP), apply(FALSE))), fuel=10)
+# xor looks at its first argument, a fail: its own node becomes one in the first turn, and the second sees it go. loop is never looked at.
+case('xor of fail and loop, fuel 10', (0, 0, 2, 0, 3, 0, 0), Left([N_FAIL, N_FAIL, n_apply(LOOP)], [], answers()),
+     SMALL, asked(apply(XOR, FAIL, apply(LOOP))), fuel=10)
+
 # ---- refused before it is run
 case('a book with a byte left over: nothing touched', (1, 56, 0, 0, 0, 0, 0), None, SMALL + b'\x00', D, fuel=10)
 case('a question with a variable: nothing touched', (14, 5, 0, 0, 0, 0, 0), None, SMALL, hx('01 0003 00 0000'), fuel=10)
@@ -418,6 +428,27 @@ case('depth 255 in a branch', (0, 0, 7, 1, 256, 0, 0),
 case('depth 256 in a branch', (24, 0, 5, 0, 257, 0, 1),
      Left(chained([None] * 5 + [n_apply(LOOK, 6), n_apply(Z)], 0, [51] * 5), [(0, {})], answers()),
      VALUES, asked(times(F51, 5, apply(LOOK, apply(Z)))))
+# DEEP branches on its argument and then on what that S has under it, which is one arrow below the S that stores it and so two below DEEP. The
+# S of the question and four F51 put DEEP 253 or 254 arrows down.
+DEEP, G51 = range(2, 4)
+NESTED = book([constructor(), constructor(1), operation(1), operation(1)],
+              [branch(0, rule(apply(Z)), branch(1, rule(apply(Z)), rule(apply(Z)))), rule(times(S, 51, var(0)))])
+
+
+def above_deep(count, deep):
+    """The nodes: so many S, four chains of 51, DEEP or what became of it, S, Z."""
+    nodes = [n_apply(S, i + 1) for i in range(count)] + [None] * 4 + [deep, n_apply(S, count + 6), n_apply(Z)]
+    return chained(nodes, count, [51] * 4)
+
+
+def question_deep(count):
+    return asked(times(S, count, times(G51, 4, apply(DEEP, apply(S, apply(Z))))))
+
+
+case('depth 255 in a branch below a branch', (0, 0, 6, 1, 256, 0, 0),
+     Left(above_deep(49, n_apply(Z)), [], answers(record([S] * 253 + [Z], {}))), NESTED, question_deep(49))
+case('depth 256 in a branch below a branch', (24, 0, 4, 0, 257, 0, 1),
+     Left(above_deep(50, n_apply(DEEP, 55)), [(0, {})], answers()), NESTED, question_deep(50))
 
 # ---- 3,200 nodes: grow(S m, x) = grow(m, 63 times S of x), with 63 fresh nodes; grow(Z, x) = 61 times S of Z, with 61 fresh nodes
 GROW = 2

@@ -9,6 +9,7 @@ use borrow.Author.Tests.{leb-false, eq-eqb, ne-eqb}
 use lib.Dec.{leb}
 use lib.ListN.{length, getD, take}
 use lib.Seq.{length-take-le, getD-take}
+use Rattle.limits.specs.Sizes.{mostVariables}
 use Rattle.reading.specs.Reading.{got}
 use Rattle.reading.proofs.Good.{Good, good, good-got, then-good, unless, byte-good}
 use Rattle.symbols.specs.Symbols.{Symbols}
@@ -64,7 +65,7 @@ flags-below flags (suc n) = flag-more flags n (flags-below flags n) (getD flags 
 -- so any flags tell some variables
 pub flags-some : (flags : List Bool) → (done : List ℕ) × Flags flags done
 flags-some flags =
-    let told = flags-below flags 32 in
+    let told = flags-below flags mostVariables in
     (told .done, told .below)
 
 -- a variable to branch on that was read at p, among the bound ones of these sorts

@@ -9,6 +9,7 @@ use borrow.Author.Tests.{lt-ltb, le-ltb, ltb-false}
 use lib.Dec.{ltb}
 use lib.ListN.{length, getD, drop, drop-of-length-le, length-drop}
 use lib.Seq.{drop-cons, drop-drop, getD-drop}
+use Rattle.limits.specs.Sizes.{mostVariables, sortsOfAByte}
 use Rattle.symbols.specs.Symbols.{Symbol, Symbols, noSymbol, isConstructorOf, constructorsOf}
 use Rattle.symbols.specs.Table.{symbolIn, symbolsIn, firstFrom}
 use Rattle.symbols.proofs.Chains.{stops, first-in-array, next-in-array}
@@ -58,7 +59,7 @@ module _ (bs places : List ℕ) (sort : ℕ) where
 
   module _ {next first : List ℕ} (chained : Chained (symbolsIn bs places) next first) where
     -- the chain begins at the first of all
-    pub chain-first : sort < 256 → Arrives bs places sort 0 (getD first sort 0)
+    pub chain-first : sort < sortsOfAByte → Arrives bs places sort 0 (getD first sort 0)
     chain-first small = rw (first-in-array (symbolsIn bs places) (chained .firsts) sort small) (arrives 0)
 
     -- it goes on to the first behind symbol f
@@ -90,26 +91,26 @@ module _ (bs places : List ℕ) (bound sort : ℕ) where
     bound-with = bound + length (symbolIn bs (getD places f 0) .arguments)
 
     -- it would, or one behind it would
-    past-first : pastFrom f ≡ elim (ltb 32 bound-with) as (λ _. Bool) [ true ↦ true | false ↦ pastFrom (f + 1) ]
+    past-first : pastFrom f ≡ elim (ltb mostVariables bound-with) as (λ _. Bool) [ true ↦ true | false ↦ pastFrom (f + 1) ]
     unfolding constructorsOf bindsPast
     past-first = rw (next-symbol bs places f h, on h, constructorsOf)
 
     -- it would
-    pub past-here : 32 < bound-with → pastFrom f ≡ true
-    past-here l = past-first ∙ rw (lt-ltb 32 bound-with l)
+    pub past-here : mostVariables < bound-with → pastFrom f ≡ true
+    past-here l = past-first ∙ rw (lt-ltb mostVariables bound-with l)
 
     -- it would not
-    pub past-later : bound-with ≤ 32 → pastFrom f ≡ pastFrom (f + 1)
-    past-later fits = past-first ∙ rw (le-ltb 32 bound-with fits)
+    pub past-later : bound-with ≤ mostVariables → pastFrom f ≡ pastFrom (f + 1)
+    past-later fits = past-first ∙ rw (le-ltb mostVariables bound-with fits)
 
     -- none would
     module _ (none : pastFrom f ≡ false) where
       -- so it would not
-      pub case-fits : bound-with ≤ 32
-      case-fits = by (ltb 32 bound-with) refl
+      pub case-fits : bound-with ≤ mostVariables
+      case-fits = by (ltb mostVariables bound-with) refl
         where
-          by : (b : Bool) → ltb 32 bound-with ≡ b → bound-with ≤ 32
-          by false l = ltb-false 32 _ l
+          by : (b : Bool) → ltb mostVariables bound-with ≡ b → bound-with ≤ mostVariables
+          by false l = ltb-false mostVariables _ l
           by true l = absurd (let z : _≡_ true false = sym (past-first ∙ rw l) ∙ none in let y : _≡_ {A = ℕ} 0 1 = cc in omega arith)
 
       -- and none behind it

@@ -5,6 +5,7 @@ use mathlib.Core.Path.{_≡_, refl, sym, ap, _∙_}
 use Prim.Native.Nat.{ℕ, suc, _+_, _≤_, _<_}
 use borrow.Author.Tests.{lt-ltb, le-ltb}
 use lib.ListN.{length, set}
+use Rattle.limits.specs.Sizes.{mostVariables}
 use Rattle.reading.specs.Reading.{Reading, got, refusal, _then_}
 use Rattle.reading.specs.Bytes.{lengthAt}
 use Rattle.reading.specs.Answer.{keeping, nothing}
@@ -34,11 +35,11 @@ module _ (bs : List ℕ) (S : Symbols) (e : ℕ) (x : Symbol) (p : ℕ) (was is 
   item-unopened r = told-refused (p + 2) was is (then-refusal _ (sym r))
 
   module _ {end q : ℕ} (opened : got end q ≡ lengthAt bs 0 e p) where
-    pub item-refused : {c r : ℕ} → refusal c r ≡ keeping nothing (treeIn bs S (x .sort) end 33 (x .arguments) [] q) → Told (p + 2) (refusal c r) item was is
+    pub item-refused : {c r : ℕ} → refusal c r ≡ keeping nothing (treeIn bs S (x .sort) end (suc mostVariables) (x .arguments) [] q) → Told (p + 2) (refusal c r) item was is
     unfolding itemAt
     item-refused told = told-refused (p + 2) was is (then-got _ (sym opened) ∙ then-refusal _ (kept-refusal nothing _ told))
 
-    module _ {v r : ℕ} (told : Told q (got v r) (treeIn bs S (x .sort) end 33 (x .arguments) [] q) was is) where
+    module _ {v r : ℕ} (told : Told q (got v r) (treeIn bs S (x .sort) end (suc mostVariables) (x .arguments) [] q) was is) where
       pub item-left-over : r < end → Told (p + 2) (refusal 1 r) item was is
       unfolding itemAt
       item-left-over l =

@@ -9,6 +9,7 @@ use borrow.Author.Tests.{le-leb, lt-leb, eq-eqb, ne-eqb}
 use lib.Dec.{leb}
 use lib.ListN.{length, getD, set, replicate, getD-replicate}
 use lib.Seq.{getD-set-same, getD-set-other}
+use Rattle.limits.specs.Sizes.{mostVariables}
 use Rattle.reading.specs.Reading.{Reading, got, refusal, _then_, refuse_at_if_else_}
 use Rattle.reading.specs.Bytes.{byteAt}
 use Rattle.reading.proofs.Keeping.{then-got, then-refusal}
@@ -17,15 +18,15 @@ use Rattle.book.specs.TreeAt.{isIn, bindsPast, branchedAt}
 
 -- the flags say which variables were branched on
 abbrev pub Flags : List Bool → List ℕ → Type 0
-Flags flags done = (x : ℕ) → x < 32 → isIn x done ≡ getD flags x false
+Flags flags done = (x : ℕ) → x < mostVariables → isIn x done ≡ getD flags x false
 
 -- at first none was
-pub flags-none : Flags (replicate 32 false) []
+pub flags-none : Flags (replicate mostVariables false) []
 unfolding isIn
-flags-none x h = sym (getD-replicate 32 x false false h)
+flags-none x h = sym (getD-replicate mostVariables x false false h)
 
 -- one more is
-pub flags-more : (flags : List Bool) (done : List ℕ) (x : ℕ) → x < 32 → length flags ≡ 32 → Flags flags done → Flags (set flags x true) (x ∷ done)
+pub flags-more : (flags : List Bool) (done : List ℕ) (x : ℕ) → x < mostVariables → length flags ≡ mostVariables → Flags flags done → Flags (set flags x true) (x ∷ done)
 unfolding isIn
 flags-more flags done x h l is y hy = by (ℕ-discrete y x)
   where

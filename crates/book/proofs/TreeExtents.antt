@@ -4,6 +4,7 @@ use mathlib.Core.Path.{_≡_, refl}
 use Prim.Native.Nat.{ℕ, zero, suc, _+_, _≤_, _<_}
 use native.Mathlib.Omega.{arith}
 use lib.ListN.{getD}
+use Rattle.limits.specs.Sizes.{mostVariables}
 use Rattle.reading.specs.Reading.{Reading}
 use Rattle.reading.proofs.Good.{Good, good, refused, then-good, unless, byte-good, length-good}
 use Rattle.symbols.specs.Symbols.{Symbol, Symbols, constructorsOf}
@@ -64,5 +65,5 @@ pub item-extent : (bs : List ℕ) (S : Symbols) (e : ℕ) (x : Symbol) (p : ℕ)
 unfolding itemAt
 item-extent bs S e x p =
     then-good (length-good bs 0 e p) λ item q is.
-    then-good (tree-extent bs S (x .sort) item 33 (x .arguments) [] q) λ t r tree. unless _ _ _ λ _ _.
+    then-good (tree-extent bs S (x .sort) item (suc mostVariables) (x .arguments) [] q) λ t r tree. unless _ _ _ λ _ _.
     good (record { size = omega (arith, is .0, tree .size); within = omega (arith, is .2, tree .within) })

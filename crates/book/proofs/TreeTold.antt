@@ -4,6 +4,7 @@ use mathlib.Core.Path.{_≡_, _∙_}
 use Prim.Native.Nat.{ℕ, suc, _+_, _-_, _≤_, _<_}
 use native.Mathlib.Omega.{arith}
 use lib.ListN.{getD}
+use Rattle.limits.specs.Sizes.{mostBookBytes}
 use Rattle.reading.specs.Reading.{Reading, got}
 use Rattle.reading.specs.Answer.{readingOf, keeping, nothing}
 use Rattle.reading.specs.declared.Reading.{Reading as Answered}
@@ -16,7 +17,7 @@ use Rattle.book.specs.Reader.{Marked, MarkedRow, Inside, handedOn, marke
 use Rattle.book.proofs.TreeWays.{Told, branch-read}
 
 -- the place behind what was read is one of the book's, where everything ends within the book
-pub inside : {A : Type 0} {P : A → ℕ → Type 0} (number : A → ℕ) {k : Reading A} (r : Answered) → Good P k → ((a : A) (q : ℕ) → P a q → q ≤ 32768)
+pub inside : {A : Type 0} {P : A → ℕ → Type 0} (number : A → ℕ) {k : Reading A} (r : Answered) → Good P k → ((a : A) (q : ℕ) → P a q → q ≤ mostBookBytes)
     → readingOf r ≡ keeping number k → Inside r
 inside number (Got v n) is small told =
     let a = kept-got number _ told in

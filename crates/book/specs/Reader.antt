@@ -4,7 +4,7 @@ use mathlib.Core.List.{List}
 use mathlib.Core.Path.{_≡_}
 use Prim.Native.Nat.{ℕ, _≤_, _<_}
 use lib.ListN.{length, getD, set, take}
-use Rattle.limits.specs.Sizes.{mostBookBytes, mostVariables, mostArguments}
+use Rattle.limits.specs.Sizes.{mostBookBytes, mostVariables, mostArguments, sortsOfAByte}
 use Rattle.reading.specs.Reading.{Reading, got, refusal}
 use Rattle.reading.specs.declared.Reading.{Reading as Answered}
 use Rattle.reading.specs.declared.Reading.the-variants.{Got, Refusal}
@@ -18,7 +18,7 @@ use Rattle.book.specs.declared.path.Path.{Path}
 -- the constructors of each sort, chained
 pub record Chained (symbols : Symbols) (next first : List ℕ) : Type 0 where
   pub nexts : next ≡ inArray (nextsFrom symbols 0)
-  pub firsts : first ≡ firstsFrom symbols 256 0
+  pub firsts : first ≡ firstsFrom symbols sortsOfAByte 0
 
 -- the sorts of the variables bound on a path
 abbrev pub varsOf : Path → List ℕ

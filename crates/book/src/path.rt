@@ -17,7 +17,7 @@ pub struct Path {
 
 impl Path {
     pub(crate) fn empty() -> Path
-        ensures { λ r. ⌜ (r .bound ≡ 0) × (r .done ≡ replicate 32 false) ⌝ }
+        ensures { λ r. ⌜ (r .bound ≡ 0) × (r .done ≡ replicate mostVariables false) ⌝ }
     {
         Path {
             sorts: [0; Limits::VARIABLES],

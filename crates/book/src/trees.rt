@@ -26,7 +26,7 @@ use symbols::table::is_operation;
 use symbols::table::sort_of;
 
 // The first constructor of a sort, or the count of symbols.
-fn first_of(first: &[u16; 256], sort: u8) -> u16
+fn first_of(first: &[u16; Limits::SORTS_OF_A_BYTE], sort: u8) -> u16
     ensures { λ r. ⌜ r ≡ getD (now (first .entry)) sort 0 ⌝ }
 {
     first[sort as usize]
@@ -45,7 +45,7 @@ fn binds_past(
     book: &[u8],
     at: &[u16],
     next: &[u16; Limits::SYMBOLS],
-    first: &[u16; 256],
+    first: &[u16; Limits::SORTS_OF_A_BYTE],
     sort: u8,
     bound: usize,
 ) -> bool
@@ -67,7 +67,7 @@ fn read_branched(
     book: &[u8],
     at: &[u16],
     next: &[u16; Limits::SYMBOLS],
-    first: &[u16; 256],
+    first: &[u16; Limits::SORTS_OF_A_BYTE],
     e: usize,
     path: Path,
     p: usize,
@@ -136,7 +136,7 @@ fn read_tree(
     book: &[u8],
     at: &[u16],
     next: &[u16; Limits::SYMBOLS],
-    first: &[u16; 256],
+    first: &[u16; Limits::SORTS_OF_A_BYTE],
     sort: u8,
     e: usize,
     depth: usize,
@@ -208,7 +208,7 @@ fn read_cases(
     book: &[u8],
     at: &[u16],
     next: &[u16; Limits::SYMBOLS],
-    first: &[u16; 256],
+    first: &[u16; Limits::SORTS_OF_A_BYTE],
     sort: u8,
     e: usize,
     depth: usize,
@@ -245,7 +245,7 @@ fn read_item(
     book: &[u8],
     at: &[u16],
     next: &[u16; Limits::SYMBOLS],
-    first: &[u16; 256],
+    first: &[u16; Limits::SORTS_OF_A_BYTE],
     e: usize,
     f: usize,
     ends: &mut [u16; Limits::BOOK],
@@ -301,7 +301,7 @@ fn read_trees(
     book: &[u8],
     at: &[u16],
     next: &[u16; Limits::SYMBOLS],
-    first: &[u16; 256],
+    first: &[u16; Limits::SORTS_OF_A_BYTE],
     e: usize,
     f: usize,
     p: usize,
@@ -342,7 +342,7 @@ pub(crate) fn read_tree_part(
     book: &[u8],
     at: &[u16],
     next: &[u16; Limits::SYMBOLS],
-    first: &[u16; 256],
+    first: &[u16; Limits::SORTS_OF_A_BYTE],
     p: usize,
     ranks: [u16; Limits::SYMBOLS],
 ) -> TreePart
@@ -363,7 +363,7 @@ fn read_all(
     book: &[u8],
     at: &[u16],
     next: &[u16; Limits::SYMBOLS],
-    first: &[u16; 256],
+    first: &[u16; Limits::SORTS_OF_A_BYTE],
     p: usize,
     info: &mut [u16; Limits::SYMBOLS],
     ends: &mut [u16; Limits::BOOK],

@@ -12,13 +12,11 @@ use lines::show_item;
 use lines::show_result;
 use reading::number;
 use reading::part_of;
-use run::Outcome;
-use run::run;
+use run::Owned;
+use run::run_owned;
 
-// How long each memory is.
+// How long each memory is; the list has Owned::HELD places.
 const NUMBERS: usize = 32010;
-
-const PLACES: usize = 100;
 
 const BYTES: usize = 16400;
 
@@ -65,14 +63,14 @@ fn show_row(input: &[u8], p: usize) -> usize
 // The run of a row over the first so many numbers, places and bytes of memory that holds marks. The ten bytes say how many, and the fuel.
 fn show_run<'a>(given: &'a [u8], book: &'a [u8], question: &'a [u8]) {
     let numbers = at_most(number(given, 0), NUMBERS);
-    let places = at_most(number(given, 2), PLACES);
+    let places = number(given, 2);
     let room = at_most(number(given, 4), BYTES);
     let fuel = (number(given, 6) * 65536 + number(given, 8)) as u32;
     io::write_all(1, b":");
     let mut nodes = [48879u16; NUMBERS];
     let mut bytes = [170u8; BYTES];
-    let list = [Entry::of(7, Limits::all_open()); PLACES];
-    let r = run_first(
+    let list = [Entry::of(7, Limits::all_open()); Owned::HELD];
+    let r = run_owned(
         book,
         question,
         &mut nodes[0..numbers],
@@ -91,32 +89,6 @@ fn at_most(n: usize, most: usize) -> usize
     ensures { λ r. ⌜ r ≤ most ⌝ }
 {
     if most < n { most } else { n }
-}
-
-// A run whose list is held by value, and lent as far as it is to be used.
-struct Listed {
-    outcome: Outcome,
-    list: [Entry; PLACES],
-}
-
-// The run over the first so many places of a list: its result, and the whole list after it.
-fn run_first<'a>(
-    book: &'a [u8],
-    question: &'a [u8],
-    nodes: &mut [u16],
-    list: [Entry; PLACES],
-    places: usize,
-    answers: &mut [u8],
-    fuel: u32,
-) -> Listed
-    requires { ⌜ places ≤ 100 ⌝ }
-{
-    let mut mine = list;
-    let outcome = run(book, question, nodes, &mut mine[..places], answers, fuel);
-    Listed {
-        outcome,
-        list: mine,
-    }
 }
 
 // A checksum with one more number in it.
@@ -159,10 +131,10 @@ fn wide_byte(v: u8) -> u64
     v as u64
 }
 
-fn sum_of_list(list: [Entry; PLACES]) -> u64 {
+fn sum_of_list(list: [Entry; Owned::HELD]) -> u64 {
     let mut c: u64 = 0;
     let mut i: usize = 0;
-    while i < PLACES {
+    while i < Owned::HELD {
         let e = list[i];
         c = with_decisions(with_number(c, wide_number(e.root)), e.decisions());
         i += 1;
@@ -197,7 +169,7 @@ fn number_of(side: Side) -> u64
 // What a run left: the checksums behind the numbers, then a line for each answer.
 fn show_left<'a>(
     nodes: &'a [u16; NUMBERS],
-    list: [Entry; PLACES],
+    list: [Entry; Owned::HELD],
     bytes: &'a [u8; BYTES],
     answers: usize,
 ) {

@@ -5,6 +5,7 @@ use lines::show_answers;
 use lines::show_result;
 use reading::number;
 use reading::part_of;
+use run::Owned;
 use run::run_owned;
 
 // The longest input: a book and a question of 65,535 bytes each, behind their lengths, and the fuel.
@@ -34,8 +35,16 @@ fn expand(input: &[u8]) {
     let fuel = (number(input, f) * 65536 + number(input, f + 2)) as u32;
     let mut nodes = [0u16; Limits::NODES * Limits::NODE];
     let mut bytes = [0u8; ANSWER_BYTES];
-    let list = [Entry::vacant(); Limits::ENTRIES];
-    let r = run_owned(book, question, &mut nodes, list, &mut bytes, fuel);
+    let list = [Entry::vacant(); Owned::HELD];
+    let r = run_owned(
+        book,
+        question,
+        &mut nodes,
+        list,
+        Limits::ENTRIES,
+        &mut bytes,
+        fuel,
+    );
     let outcome = r.outcome;
     show_answers(&bytes, outcome.answers);
     io::write_all(1, b"R");

@@ -3,6 +3,7 @@ use mathlib.Core.List.{List, [], _∷_}
 use mathlib.Core.Path.{_≡_, refl}
 use Prim.Native.Nat.{ℕ, zero, suc, _+_, _≤_, _<_}
 use native.Mathlib.Omega.{arith}
+use Rattle.limits.specs.Sizes.{mostExpressionNodes}
 use Rattle.reading.specs.Reading.{Reading}
 use Rattle.reading.proofs.Good.{Good, good, refused, then-good, unless, byte-good, number-good}
 use Rattle.symbols.specs.Symbols.{Symbols, symbolOf}
@@ -72,6 +73,6 @@ module _ (bs : List ℕ) (base : ℕ) (S : Symbols) (e : ℕ) where
   expr-extent (suc depth) vars s left p =
       then-good (byte-good bs base e p) λ c q is. code-extent (exprAt bs base S e depth vars) (expr-extent depth vars) vars c s left p (omega (arith, is .1, is .2))
 
-  pub whole-extent : (vars : List ℕ) (s p : ℕ) → Good (Extent exprBytes e 64 p) (wholeAt bs base S e vars s p)
+  pub whole-extent : (vars : List ℕ) (s p : ℕ) → Good (Extent exprBytes e mostExpressionNodes p) (wholeAt bs base S e vars s p)
   unfolding wholeAt
-  whole-extent vars s p = expr-extent 65 vars s 64 p
+  whole-extent vars s p = expr-extent (suc mostExpressionNodes) vars s mostExpressionNodes p

@@ -8,6 +8,7 @@ use borrow.Author.Tests.{leb-false, ltb-false}
 use lib.Dec.{leb, ltb}
 use lib.ListN.{take}
 use lib.Seq.{getD-take}
+use Rattle.limits.specs.Sizes.{mostExpressionNodes}
 use Rattle.reading.specs.Reading.{Reading, got, _then_, refuse_at_if_else_}
 use Rattle.reading.specs.Bytes.{byteAt, numberAt}
 use Rattle.symbols.specs.Symbols.{Symbols}
@@ -55,4 +56,4 @@ module _ (bs : List ℕ) (base e : ℕ) where
 
     pub whole-same : (vars : List ℕ) (s p : ℕ) → wholeAt part base S e vars s p ≡ wholeAt bs base S e vars s p
     unfolding wholeAt
-    whole-same vars s p = rw (expr-same 65 vars)
+    whole-same vars s p = rw (expr-same (suc mostExpressionNodes) vars)

@@ -3,7 +3,7 @@ ghost use mathlib.Core.Path.{_≡_};
 ghost use Prim.Native.Nat.{ℕ, _+_, _<_, _≤_};
 ghost use lib.ListN.{length, drop};
 ghost use Rattle.reading.specs.Answer.{readingOf, keeping, baseOf, partOf};
-ghost use Rattle.symbols.specs.Table.{symbolsIn};
+ghost use Rattle.symbols.specs.Table.{symbolsIn, argumentsOfAByte};
 ghost use Rattle.expressions.specs.ExpressionAt.{leftOf, variableAt, rowWith, appliedAt, exprAt, wholeAt};
 ghost use Rattle.expressions.specs.Whose.{whose};
 use limits::Limits;
@@ -154,7 +154,7 @@ fn read_row(
     left: usize,
     p: usize,
 ) -> Reading
-    requires { ⌜ length (now sorts) ≤ 253 ⌝ }
+    requires { ⌜ length (now sorts) ≤ argumentsOfAByte ⌝ }
     ensures { λ r. ⌜ ((f : ℕ) → left < f → readingOf r ≡ keeping leftOf (rowWith (exprAt (now (s .entry)) (baseOf who) (symbolsIn (now (book .entry)) (now (at .entry))) (length (now (s .entry))) f (now (vars .entry))) (now (sorts .entry)) left p)) ⌝ }
 {
     if sorts.len() == 0 {

@@ -19,11 +19,11 @@ use Rattle.rewriting.specs.Rewriting.{Leads, Ends, Value}
 use Rattle.rewriting.proofs.Lists.{sum, sum-set}
 use Rattle.rewriting.proofs.Heaps.{there, apply≢fail, choice≢fail, forward≢fail, ChoicesBelow}
 use Rattle.meaning.specs.Partial.{Part, bot, _⊑_, Hits, Gives}
-use Rattle.meaning.specs.Readings.{Side, sideOf, Reads, whole}
+use Rattle.meaning.specs.Readings.{Side, sideOf, AgreesIn, Reads, whole}
 use Rattle.meaning.proofs.Order.{⊑-refl, ⊑-trans, ⊑-of-eq, ⊑-whole, ⊑ˡ-refl, gives-mono, agrees-choice, agrees-forward, agrees-fail}
 use Rattle.meaning.proofs.Rewritten.{hits-ends}
 use Rattle.meaning.proofs.Finite.{Arrow, Finite}
-use Rattle.meaning.proofs.Measure.{AgreesIn, read-at, read-set, agrees-out}
+use Rattle.meaning.proofs.Measure.{read-at, read-set}
 use Rattle.meaning.proofs.Realize.{partAt, sideAt, sizeAt, Marked, replaced, sized}
 use Rattle.meaning.proofs.Turns.{asSide, sides, Can, Fit}
 use Rattle.fuel.proofs.Wanted.{whole-something}
@@ -59,7 +59,7 @@ module _ {B : Book} {h : Heap} {k : ℕ} {v : Value} {e : Entry} where
 
   -- it is a reading
   pub live-reads : (L : Live B h k v e) → Reads B h (sidesOf L) (partsOf L)
-  live-reads L n = agrees-out B (read-at B _ _ (L .marked .read) n)
+  live-reads L n = (_, read-at B _ _ (L .marked .read) n)
 
   -- so the entry can have the value
   pub live-can : Live B h k v e → Can B h e v
@@ -99,12 +99,12 @@ module _ {B : Book} (h : Heap) (n k : ℕ) {f : ℕ} {xs env : List ℕ} {x : Ex
       go : (y : Node) (p : Part) → y ≡ Node.apply f xs → partsOf L n ≡ p → AgreesIn B (sidesOf L) (partsOf L) had y p → ByRule
       go y p q r AgreesIn.idle = inl r
       go y p q r (AgreesIn.constructor {c} {xs = ys} t a) = absurd (let same : c ≡ f = cc in let z : _≡_ {A = ℕ} 0 1 = cc in omega arith)
-      go y p q r (AgreesIn.operation {t} {f = g} {xs = ys} {e = x₁} {ρ} l o hits g′) =
+      go y p q r (AgreesIn.operation {f = g} {xs = ys} c o l) =
           let same : ys ≡ xs = cc in
           let same′ : g ≡ f = cc in
-          let hits′ : Hits B (B .tree f) (map (partsOf L) xs) x₁ ρ = rw (same, same′) at hits in
+          let hits′ : Hits B (B .tree f) (map (partsOf L) xs) (o .expr) (o .env) = rw (same, same′) at (o .hits) in
           let (rule, le) = hits-ends B h (sidesOf L) (partsOf L) (live-reads L) ends (⊑ˡ-refl (map (partsOf L) xs)) hits′ in
-          inr (t, l, rw (← rule, r) (gives-mono g′ le (⊑-refl p)))
+          inr (o .size, l, rw (← rule, r) (gives-mono (o .gives) le (⊑-refl p)))
       go y p q r (AgreesIn.choice z a) = absurd (let z : _≡_ {A = ℕ} 0 1 = cc in omega arith)
       go y p q r (AgreesIn.forward a) = absurd (let z : _≡_ {A = ℕ} 0 1 = cc in omega arith)
 

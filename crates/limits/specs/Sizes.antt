@@ -1,6 +1,6 @@
 -- The sizes of document 01, each number once. Definitions cite these names; the code cites the constants of `Limits`, which
 -- `Limits::sizes` (src/lib.rt) is proved to hand out as these very numbers.
-use Prim.Native.Nat.{ℕ}
+use Prim.Native.Nat.{ℕ, _*_, _/_}
 
 -- "Book 32,768 bytes; question 4,096"
 abbrev pub mostBookBytes : ℕ
@@ -38,6 +38,10 @@ mostArrivals = 4096
 abbrev pub mostDepth : ℕ
 mostDepth = 255
 
+-- "fuel any 32-bit number"
+abbrev pub mostFuel : ℕ
+mostFuel = 4294967295
+
 -- Of the layout: "result sort (0 to 63)"; "the sorts of its arguments (0 to 8 of them)"; "ten to a node".
 abbrev pub lastSort : ℕ
 lastSort = 63
@@ -47,3 +51,14 @@ mostArguments = 8
 
 abbrev pub numbersOfNode : ℕ
 numbersOfNode = 10
+
+-- The sorts that a byte can name, admitted or not.
+abbrev pub sortsOfAByte : ℕ
+sortsOfAByte = 256
+
+-- The bits of a decision set, two to a choice, and its words, 64 bits to each.
+abbrev pub bitsOfSet : ℕ
+bitsOfSet = 2 * mostChoices
+
+abbrev pub wordsOfSet : ℕ
+wordsOfSet = bitsOfSet / 64

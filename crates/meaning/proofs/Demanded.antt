@@ -14,10 +14,10 @@ use Rattle.nodes.specs.Nodes.{Node, Heap, at}
 use Rattle.rewriting.specs.Rewriting.{Leads, Ends, Value, Values, noValues, moreValues, IsValue, AreValues}
 use Rattle.rewriting.proofs.Lists.{All, all-at, all-append}
 use Rattle.meaning.specs.Partial.{Part, Parts, bot, con, toList, _⊑_, _⊑*_, con⊑, Hits, Gives}
-use Rattle.meaning.specs.Readings.{Side, sideOf, whole, wholes}
+use Rattle.meaning.specs.Readings.{Side, sideOf, AgreesIn, whole, wholes}
 use Rattle.meaning.proofs.Order.{⊑-refl, ⊑-of-eq, ⊑-trans, ⊑-con, _⊑ˡ_, _∷⊑_, ⊑ˡ-length, ⊑ˡ-refl, variable, append-mono, gives-mono}
 use Rattle.meaning.proofs.Finite.{Arrow, argument, target, Finite, finite, every}
-use Rattle.meaning.proofs.Measure.{AgreesIn, below-row}
+use Rattle.meaning.proofs.Measure.{below-row}
 
 -- what stands for a constructor is a variable that is there
 pub getD-inside : (ρ : List Part) (x : ℕ) {c : ℕ} {ps : Parts} → getD ρ x bot ≡ con c ps → x < length ρ
@@ -88,9 +88,9 @@ module _ (B : Book) (h : Heap) (δ : ℕ → Side) (π : ℕ → Part) (σ : ℕ
         go x p e q (AgreesIn.constructor {xs} t a) le =
             let u = same-head (⊑-trans le a) in
             inr (record { node = n; arguments = xs; leads = Leads.here; is = rw (u .0) at e; constructor = rw (u .0) at t; above = below-row (map π xs) (u .1) })
-        go x p e q (AgreesIn.operation {xs} l o hits g) le =
-            ⊎-elim inl (λ r. inl (ruled n e o (r .1) l (rw q (gives-mono g (r .2) (⊑-refl _)))))
-            (follow hits xs (⊑ˡ-refl (map π xs)) (every xs λ y i. below y (rw e (argument i))))
+        go x p e q (AgreesIn.operation {xs} op o l) le =
+            ⊎-elim inl (λ r. inl (ruled n e op (r .1) l (rw q (gives-mono (o .gives) (r .2) (⊑-refl _)))))
+            (follow (o .hits) xs (⊑ˡ-refl (map π xs)) (every xs λ y i. below y (rw e (argument i))))
         go x p e q (AgreesIn.choice z a) le = inl (chosen n e z (rw q a))
         go x p e q (AgreesIn.forward {m} a) le =
             ⊎-elim inl (λ (d : Headed m c ps). inr (record {

@@ -15,9 +15,9 @@ use Rattle.rewriting.proofs.Lists.{sum, sum-append, sum-zeros}
 use Rattle.rewriting.proofs.Holds.{Holds, holds-append}
 use Rattle.rewriting.proofs.Kept.{make-choices, place-choices}
 use Rattle.meaning.specs.Partial.{Part, Parts, bot, con, toList, _⊑_, bot⊑, con⊑, Hits, Gives, GivesRow}
-use Rattle.meaning.specs.Readings.{Side, sideOf}
+use Rattle.meaning.specs.Readings.{Side, sideOf, AgreesIn}
 use Rattle.meaning.proofs.Order.{⊑-refl, ⊑-of-eq, _⊑ˡ_, []⊑, _∷⊑_, variable, hits-mono, gives-mono}
-use Rattle.meaning.proofs.Measure.{AgreesIn, Read, read-append, row-below}
+use Rattle.meaning.proofs.Measure.{Read, read-append, row-below}
 
 module _ (B : Book) (env : List ℕ) (ρ : List Part) where
   -- The fresh nodes from `next` on, which use the choices from k up to c, can be read in size s, and then G holds.
@@ -130,9 +130,9 @@ module _ {B : Book} where
   operated : {t f : ℕ} {xs : List ℕ} (ps : Parts) {e : Expr} {ρ′ : List Part} {p : Part} → B .isConstructor f ≡ false
       → Hits B (B .tree f) (toList ps) e ρ′ → Gives B t e ρ′ p
       → (δ : ℕ → Side) (π : ℕ → Part) → toList ps ⊑ˡ map π xs → AgreesIn B δ π (suc t) (Node.apply f xs) p
-  operated ps f h g δ π l =
-      let u = hits-mono l h in
-      AgreesIn.operation (le-refl _) f (u .1) (gives-mono g (u .2) (⊑-refl _))
+  operated {t} ps {e} f h g δ π l =
+      let (σ, hits, le) = hits-mono l h in
+      AgreesIn.operation f (record { expr = e; env = σ; size = t; hits = hits; gives = gives-mono g le (⊑-refl _) }) (le-refl _)
 
   -- how a choice agrees, once the side taken is read
   chosen : {k l r : ℕ} {p : Part} (s : Side) (δ : ℕ → Side) (π : ℕ → Part) → p ⊑ π (sideOf s l r) → δ k ≡ s → AgreesIn B δ π 1 (Node.choice k l r) p

@@ -3,7 +3,7 @@
 use mathlib.Core.Path.{_≡_, refl, sym, ap, _∙_}
 use mathlib.Core.Logic.{_⊎_, inl, inr, _≢_}
 use mathlib.Core.Option.{some}
-use mathlib.Core.List.{List}
+use mathlib.Core.List.{List, map}
 use Prim.Native.Nat.{ℕ, _+_, _-_, _≤_, _<_}
 use native.Mathlib.Decide.{ℕ-discrete, decLt}
 use native.Mathlib.Omega.{arith}
@@ -16,7 +16,7 @@ use Rattle.rewriting.proofs.Update.{splice, splice-below, splice-from}
 use Rattle.rewriting.proofs.Heaps.{at-past, there, forward≢fail, choice≢fail, ArrowsBelow, InRange, grown, grown-old, grown-each}
 use Rattle.meaning.specs.Partial.{Part, bot, _⊑_, bot⊑}
 use Rattle.meaning.specs.Readings.{Side, left, right, sideOf, Agrees, Reads, whole, Decisions, CanBe}
-use Rattle.meaning.proofs.Order.{⊑-refl, ⊑-of-eq, ⊑-whole, _⊑ᶠ_, agrees-mono, agrees-fail, agrees-bot}
+use Rattle.meaning.proofs.Order.{⊑-refl, ⊑-of-eq, ⊑-whole, _⊑ᶠ_, ⊑ˡ-refl, agrees-mono, agrees-apply, agrees-choice, agrees-fail, agrees-forward, agrees-bot}
 use Rattle.meaning.proofs.Raise.{ReadsBut}
 
 -- an old node, or which of the fresh ones
@@ -34,15 +34,17 @@ cut π b = splice π b (λ j. bot)
 -- what agrees still does, if its arrows are below the cut
 agrees-cut : (B : Book) (δ : ℕ → Side) (π : ℕ → Part) (b : ℕ) (x : Node) (p : Part) → ArrowsBelow b x → Agrees B δ π x p
     → Agrees B δ (cut π b) x p
-unfolding Agrees sideOf
-agrees-cut B δ π b (apply f xs) p all a = rw (map-same (splice-below π b (λ j. bot)) all) a
-agrees-cut B δ π b (choice i l r) p (ll, lr) a = rw (splice-below π b (λ j. bot) (sideOf (δ i) l r) (side (δ i))) a
+unfolding sideOf
+agrees-cut B δ π b (apply f xs) p all a =
+    agrees-apply B δ π (cut π b) f xs xs (rw (map-same (splice-below π b (λ j. bot)) all) (⊑ˡ-refl (map π xs))) (⊑-refl p) a
+agrees-cut B δ π b (choice i l r) p (ll, lr) a =
+    agrees-choice B δ (cut π b) refl .1 (rw (splice-below π b (λ j. bot) (sideOf (δ i) l r) (side (δ i))) (agrees-choice B δ π refl .0 a))
   where
     side : (s : Side) → sideOf s l r < b
     side left = ll
     side right = lr
-agrees-cut B δ π b fail p all a = a
-agrees-cut B δ π b (forward m) p lt a = rw (splice-below π b (λ j. bot) m lt) a
+agrees-cut B δ π b fail p all a = rw (agrees-fail B δ π refl .0 a) (agrees-bot B δ (cut π b) fail)
+agrees-cut B δ π b (forward m) p lt a = agrees-forward B δ (cut π b) refl .1 (rw (splice-below π b (λ j. bot) m lt) (agrees-forward B δ π refl .0 a))
 
 -- the nodes of which a reading of the grown heap says nothing for h
 pub Changed : Heap → ℕ → ℕ → Type 0

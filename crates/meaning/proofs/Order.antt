@@ -1,11 +1,12 @@
 -- The order of partial values, and that all that readings are made of respects it: whoever knows more of the variables, or of the
 -- nodes, can give at least as much.
-use mathlib.Core.Bool.{Bool, true, false}
+use mathlib.Core.Bool.{true, false}
 use mathlib.Core.Path.{_≡_, refl, ap, ap₂}
-use mathlib.Core.Logic.{_⊎_, inl, inr, _↔_, Iff·rfl}
+use mathlib.Core.Logic.{_⊎_, inl, inr, _↔_}
 use mathlib.Core.List.{List, [], _∷_, _++_, map}
 use Prim.Native.Nat.{ℕ, zero, suc}
 use native.Mathlib.Omega.{arith}
+use native.Mathlib.Nat.{le-refl}
 use lib.ListN.{length, getD}
 use Rattle.expressions.specs.Expressions.{Expr, Exprs}
 use Rattle.book.specs.Trees.{Tree}
@@ -14,7 +15,7 @@ use Rattle.nodes.specs.Nodes.{Node, apply, choice, fail, forward, at}
 use Rattle.rewriting.specs.Rewriting.{Value, Values, con, noValues, moreValues}
 use Rattle.meaning.specs.Partial.{Part, Parts, bot, noParts, moreParts, toList, ofList, _⊑_, bot⊑, con⊑, _⊑*_, none⊑, more⊑}
 use Rattle.meaning.specs.Partial.{Hits, Gives, GivesRow}
-use Rattle.meaning.specs.Readings.{Side, sideOf, OperationGives, ApplyAgrees, Agrees, whole, wholes}
+use Rattle.meaning.specs.Readings.{Side, sideOf, OperationGives, AgreesIn, Agrees, whole, wholes}
 
 mutual
   -- each says no more than itself
@@ -170,74 +171,88 @@ operationGives-mono le k o =
     let (σ′, hits′, le′) = hits-mono le (o .hits) in
     record { expr = o .expr; env = σ′; size = o .size; hits = hits′; gives = gives-mono (o .gives) le′ k }
 
--- what may stand at an application may still
-pub applyAgrees-mono : (B : Book) (b : Bool) (f : ℕ) {ρ σ : List Part} {p q : Part} → ρ ⊑ˡ σ → q ⊑ p → ApplyAgrees B b f ρ p
-    → ApplyAgrees B b f σ q
-unfolding ApplyAgrees
-applyAgrees-mono B true f le k h = ⊑-trans k (⊑-trans h (con⊑ (ofList-mono le)))
-applyAgrees-mono B false f le k (inl e) = inl (⊑-bot (rw e at k))
-applyAgrees-mono B false f le k (inr o) = inr (operationGives-mono le k o)
+-- what may stand at an application may still, by a derivation no larger, when more is known of its arguments, and so may less
+agreesIn-apply : {B : Book} {δ δ′ : ℕ → Side} {π σ : ℕ → Part} {s f : ℕ} {xs ys : List ℕ} {p q : Part} → map π xs ⊑ˡ map σ ys → q ⊑ p
+    → AgreesIn B δ π s (apply f xs) p → AgreesIn B δ′ σ s (apply f ys) q
+unfolding operationGives-mono
+agreesIn-apply le k AgreesIn.idle = rw (⊑-bot k) AgreesIn.idle
+agreesIn-apply le k (AgreesIn.constructor c h) = AgreesIn.constructor c (⊑-trans k (⊑-trans h (con⊑ (ofList-mono le))))
+agreesIn-apply le k (AgreesIn.operation c o lt) = AgreesIn.operation c (operationGives-mono le k o) lt
 
--- what may stand at a node may still stand there when more is known of the other nodes, and so may less
+-- the same at any node, when more is known of the other nodes; sides may be changed where no choice has their number
+pub agreesIn-mono : {B : Book} {δ δ′ : ℕ → Side} {π σ : ℕ → Part} {s : ℕ} {x : Node} {p q : Part} → ((i l r : ℕ) → x ≡ choice i l r → δ i ≡ δ′ i)
+    → π ⊑ᶠ σ → q ⊑ p → AgreesIn B δ π s x p → AgreesIn B δ′ σ s x q
+agreesIn-mono {x = apply f xs} same le k a = agreesIn-apply (map-mono le xs) k a
+agreesIn-mono {x = choice i l r} same le k AgreesIn.idle = rw (⊑-bot k) AgreesIn.idle
+agreesIn-mono {δ′ = δ′} {x = choice i l r} same le k (AgreesIn.choice z h) =
+    AgreesIn.choice z (⊑-trans k (⊑-trans (rw (same i l r refl) at h) (le (sideOf (δ′ i) l r))))
+agreesIn-mono {x = fail} same le k AgreesIn.idle = rw (⊑-bot k) AgreesIn.idle
+agreesIn-mono {x = forward m} same le k AgreesIn.idle = rw (⊑-bot k) AgreesIn.idle
+agreesIn-mono {x = forward m} same le k (AgreesIn.forward h) = AgreesIn.forward (⊑-trans k (⊑-trans h (le m)))
+
+-- so, in whichever size: more known of the other nodes
 pub agrees-mono : (B : Book) (δ : ℕ → Side) {π σ : ℕ → Part} (x : Node) {p q : Part} → π ⊑ᶠ σ → q ⊑ p → Agrees B δ π x p → Agrees B δ σ x q
-unfolding Agrees
-agrees-mono B δ (apply f xs) le k h = applyAgrees-mono B (B .isConstructor f) f (map-mono le xs) k h
-agrees-mono B δ (choice i l r) le k h = ⊑-trans k (⊑-trans h (le (sideOf (δ i) l r)))
-agrees-mono B δ fail le k h = ⊑-bot (rw h at k)
-agrees-mono B δ (forward m) le k h = ⊑-trans k (⊑-trans h (le m))
+agrees-mono B δ x le k (s, a) = (s, agreesIn-mono (λ i l r e. refl) le k a)
 
--- sides may be changed where no choice has their number
+-- other sides
 pub agrees-sides : (B : Book) (δ δ′ : ℕ → Side) (π : ℕ → Part) (x : Node) (p : Part) → ((i l r : ℕ) → x ≡ choice i l r → δ i ≡ δ′ i)
     → Agrees B δ π x p → Agrees B δ′ π x p
-unfolding Agrees
-agrees-sides B δ δ′ π (apply f xs) p same a = a
-agrees-sides B δ δ′ π (choice i l r) p same a = rw (same i l r refl) at a
-agrees-sides B δ δ′ π fail p same a = a
-agrees-sides B δ δ′ π (forward m) p same a = a
+agrees-sides B δ δ′ π x p same (s, a) = (s, agreesIn-mono same (λ n. ⊑-refl (π n)) (⊑-refl p) a)
+
+-- the same symbol over arguments of which more is known
+pub agrees-apply : (B : Book) (δ : ℕ → Side) (π σ : ℕ → Part) (f : ℕ) (xs ys : List ℕ) {p q : Part} → map π xs ⊑ˡ map σ ys → q ⊑ p
+    → Agrees B δ π (apply f xs) p → Agrees B δ σ (apply f ys) q
+agrees-apply B δ π σ f xs ys le k (s, a) = (s, agreesIn-apply le k a)
 
 -- nothing may stand everywhere
 pub agrees-bot : (B : Book) (δ : ℕ → Side) (π : ℕ → Part) (x : Node) → Agrees B δ π x bot
-unfolding Agrees
-agrees-bot B δ π (apply f xs) = idle (B .isConstructor f)
-  where
-    idle : (b : Bool) → ApplyAgrees B b f (map π xs) bot
-    idle true = bot⊑
-    idle false = inl refl
-agrees-bot B δ π (choice i l r) = bot⊑
-agrees-bot B δ π fail = refl
-agrees-bot B δ π (forward m) = bot⊑
+agrees-bot B δ π x = (0, AgreesIn.idle)
 
 -- what agreement says at each kind of node
 module _ (B : Book) (δ : ℕ → Side) (π : ℕ → Part) where
   -- a constructor
   pub agrees-constructor : {x : Node} {c : ℕ} {xs : List ℕ} {p : Part} → x ≡ apply c xs → B .isConstructor c ≡ true
       → Agrees B δ π x p ↔ p ⊑ Part.con c (ofList (map π xs))
-  unfolding Agrees
-  agrees-constructor e k = rw (e, k) Iff·rfl
+  agrees-constructor {c = c} {xs} e k = rw e (says, λ h. (0, AgreesIn.constructor k h))
+    where
+      says : {p : Part} → Agrees B δ π (apply c xs) p → p ⊑ Part.con c (ofList (map π xs))
+      says (s, AgreesIn.idle) = bot⊑
+      says (s, AgreesIn.constructor k′ h) = h
+      says (s, AgreesIn.operation k′ o lt) = absurd (let z : _≡_ {A = ℕ} 0 1 = cc in omega arith)
 
   -- an operation
   pub agrees-operation : {x : Node} {f : ℕ} {xs : List ℕ} {p : Part} → x ≡ apply f xs → B .isConstructor f ≡ false
       → Agrees B δ π x p ↔ ((p ≡ bot) ⊎ OperationGives B f (map π xs) p)
-  unfolding Agrees
-  agrees-operation e k = rw (e, k) Iff·rfl
+  agrees-operation {f = f} {xs} e k = rw e (says, fits)
+    where
+      says : {p : Part} → Agrees B δ π (apply f xs) p → (p ≡ bot) ⊎ OperationGives B f (map π xs) p
+      says (s, AgreesIn.idle) = inl refl
+      says (s, AgreesIn.constructor k′ h) = absurd (let z : _≡_ {A = ℕ} 0 1 = cc in omega arith)
+      says (s, AgreesIn.operation k′ o lt) = inr o
+
+      fits : {p : Part} → (p ≡ bot) ⊎ OperationGives B f (map π xs) p → Agrees B δ π (apply f xs) p
+      fits (inl z) = rw z (agrees-bot B δ π (apply f xs))
+      fits (inr o) = (suc (o .size), AgreesIn.operation k o (le-refl _))
 
   -- a choice
   pub agrees-choice : {x : Node} {i l r : ℕ} {p : Part} → x ≡ choice i l r → Agrees B δ π x p ↔ p ⊑ π (sideOf (δ i) l r)
-  unfolding Agrees
-  agrees-choice e = rw e Iff·rfl
+  agrees-choice {i = i} {l} {r} e = rw e (says, λ h. (1, AgreesIn.choice (le-refl 1) h))
+    where
+      says : {p : Part} → Agrees B δ π (choice i l r) p → p ⊑ π (sideOf (δ i) l r)
+      says (s, AgreesIn.idle) = bot⊑
+      says (s, AgreesIn.choice z h) = h
 
   -- a fail
   pub agrees-fail : {x : Node} {p : Part} → x ≡ fail → Agrees B δ π x p ↔ (p ≡ bot)
-  unfolding Agrees
-  agrees-fail e = rw e Iff·rfl
+  agrees-fail e = rw e (says, λ z. rw z (agrees-bot B δ π fail))
+    where
+      says : {p : Part} → Agrees B δ π fail p → p ≡ bot
+      says (s, AgreesIn.idle) = refl
 
   -- a forward
   pub agrees-forward : {x : Node} {m : ℕ} {p : Part} → x ≡ forward m → Agrees B δ π x p ↔ p ⊑ π m
-  unfolding Agrees
-  agrees-forward e = rw e Iff·rfl
-
--- the same symbol over arguments of which more is known
-pub agrees-apply : (B : Book) (δ : ℕ → Side) (π σ : ℕ → Part) (f : ℕ) (xs ys : List ℕ) {p q : Part} → map π xs ⊑ˡ map σ ys → q ⊑ p
-    → Agrees B δ π (apply f xs) p → Agrees B δ σ (apply f ys) q
-unfolding Agrees
-agrees-apply B δ π σ f xs ys le k a = applyAgrees-mono B (B .isConstructor f) f le k a
+  agrees-forward {m = m} e = rw e (says, λ h. (0, AgreesIn.forward h))
+    where
+      says : {p : Part} → Agrees B δ π (forward m) p → p ⊑ π m
+      says (s, AgreesIn.idle) = bot⊑
+      says (s, AgreesIn.forward h) = h

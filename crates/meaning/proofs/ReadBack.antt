@@ -9,7 +9,8 @@ use Rattle.limits.specs.Sizes.{mostChoices}
 use Rattle.limits.specs.declared.Side.{Side}
 use Rattle.limits.specs.declared.Side.the-variants.{Open, Left, Right}
 use Rattle.limits.specs.Decisions.{Decisions, allOpen}
-use Rattle.machine.specs.Answers.{Answer, decisionNumbers, twoBytes, twoBytesEach, recordBytes, recordsBytes, answerBytes}
+use Rattle.reading.specs.Bytes.{twoBytes}
+use Rattle.machine.specs.Answers.{Answer, decisionNumbers, twoBytesEach, recordBytes, recordsBytes, answerBytes}
 use Rattle.rewriting.proofs.Lists.{All}
 use Rattle.meaning.specs.Records.{numbersIn, decidedBesides, answerOf, recordsIn, answersIn}
 

@@ -19,10 +19,10 @@ use Rattle.rewriting.proofs.Heaps.{at-past, ChoicesBelow}
 use Rattle.rewriting.proofs.Holds.{Holds, holds-of}
 use Rattle.rewriting.proofs.Steers.{Lawful}
 use Rattle.meaning.specs.Partial.{Part, bot, _⊑_, bot⊑, Gives}
-use Rattle.meaning.specs.Readings.{Side, sideOf, Reads, whole, Decisions, CanBe}
+use Rattle.meaning.specs.Readings.{Side, sideOf, AgreesIn, Reads, whole, Decisions, CanBe}
 use Rattle.meaning.proofs.Order.{agrees-fail, ⊑-refl, map-mono, ⊑-of-eq, ⊑-trans, _⊑ᶠ_}
 use Rattle.meaning.proofs.Finite.{Proper, step-proper}
-use Rattle.meaning.proofs.Measure.{AgreesIn, Read, read-at, read-append, read-set, raise-read, read-of}
+use Rattle.meaning.proofs.Measure.{Read, read-at, read-append, read-set, raise-read, read-of}
 use Rattle.meaning.proofs.Fresh.{place-read}
 use Rattle.meaning.proofs.Demanded.{Redex, chosen, ruled, value}
 

@@ -1,2 +1,4 @@
+pub mod Contracts
 pub mod Kept
 pub mod OneOutcome
+pub mod OneOutcomeOf

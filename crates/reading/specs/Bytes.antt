@@ -1,6 +1,6 @@
 -- Bytes, numbers and lengths at a place p of a part or item that ends at e.
-use mathlib.Core.List.{List}
-use Prim.Native.Nat.{ℕ, _+_, _*_}
+use mathlib.Core.List.{List, [], _∷_}
+use Prim.Native.Nat.{ℕ, _+_, _*_, _/_, _%_}
 use lib.Dec.{leb, ltb}
 use lib.ListN.{getD}
 use Rattle.reading.specs.Reading.{Reading, got, _then_, refuse_at_if_else_}
@@ -8,6 +8,10 @@ use Rattle.reading.specs.Reading.{Reading, got, _then_, refuse_at_if_els
 -- "Numbers are big-endian": the number whose two bytes stand at p
 abbrev pub bigEndian : List ℕ → ℕ → ℕ
 bigEndian bs p = getD bs p 0 * 256 + getD bs (p + 1) 0
+
+-- and the two bytes of a number
+unfoldable pub twoBytes : ℕ → List ℕ
+twoBytes n = n / 256 ∷ n % 256 ∷ []
 
 -- `base` is 0 in a book and 10 in a question: "11 to 15: the same in the question"
 module _ (bs : List ℕ) (base e : ℕ) where

@@ -6,7 +6,8 @@ use native.Mathlib.Numerals.{add-one}
 use native.Mathlib.Omega.{arith}
 use lib.ListN.{length, set, take, drop, length-append}
 use lib.Seq.{paste-zero, length-paste, take-paste, drop-paste, take-length, drop-drop, sets-eq}
-use Rattle.machine.specs.Answers.{twoBytes, twoBytesEach}
+use Rattle.reading.specs.Bytes.{twoBytes}
+use Rattle.machine.specs.Answers.{twoBytesEach}
 use Rattle.run.specs.Held.{writtenAt}
 
 -- a row written over a list leaves it as long

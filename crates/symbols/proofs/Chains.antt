@@ -10,7 +10,7 @@ use native.Mathlib.Omega.{arith}
 use borrow.Author.Tests.{eqb-true, eq-eqb, ne-eqb}
 use lib.ListN.{length, getD, set, take, drop, replicate, List·getD-append, length-replicate, length-set, getD-replicate, replicate-append-replicate}
 use lib.Seq.{drop-cons, drop-length, getD-set-same, getD-set-other, ext-getD}
-use Rattle.limits.specs.Sizes.{mostSymbols}
+use Rattle.limits.specs.Sizes.{mostSymbols, sortsOfAByte}
 use Rattle.reading.specs.Reading.{Reading, got, refusal}
 use Rattle.reading.specs.Answer.{keeping}
 use Rattle.symbols.specs.Symbols.{Symbol, Symbols, noSymbol, symbolOf, isConstructorOf, constructorsOf}
@@ -85,8 +85,8 @@ own-sort s x = by (x .isOperation) refl
 
 module _ (symbols : Symbols) where
   -- the array of first ones has each sort's
-  pub first-in-array : {first : List ℕ} → first ≡ firstsFrom symbols 256 0 → (s : ℕ) → s < 256 → getD first s 0 ≡ firstFrom s symbols 0
-  first-in-array firsts s small = rw firsts (first-there symbols 256 0 s small ∙ rw zero-add)
+  pub first-in-array : {first : List ℕ} → first ≡ firstsFrom symbols sortsOfAByte 0 → (s : ℕ) → s < sortsOfAByte → getD first s 0 ≡ firstFrom s symbols 0
+  first-in-array firsts s small = rw firsts (first-there symbols sortsOfAByte 0 s small ∙ rw zero-add)
 
   -- the array of next ones has each constructor's
   pub next-in-array : {next : List ℕ} → next ≡ inArray (nextsFrom symbols 0) → (s f : ℕ) → f < length symbols → isConstructorOf s (symbolOf symbols f) ≡ true
@@ -110,27 +110,27 @@ nextsInArray symbols f = replicate f 0 ++ (nextsFrom (drop f symbols) f ++ repli
 -- How far the code is at symbol f: the array has the next ones of the symbols from f on, and the first ones among these symbols are known.
 pub record Chained (symbols : Symbols) (f : ℕ) (next first : List ℕ) : Type 0 where
   pub so-far : next ≡ nextsInArray symbols f
-  pub sorts : length first ≡ 256
-  pub known : (s : ℕ) → s < 256 → getD first s 0 ≡ firstFrom s (drop f symbols) f
+  pub sorts : length first ≡ sortsOfAByte
+  pub known : (s : ℕ) → s < sortsOfAByte → getD first s 0 ≡ firstFrom s (drop f symbols) f
 
 module _ (symbols : Symbols) where
   -- behind the last symbol there are no next ones, and no first ones
-  pub chained-none : {f : ℕ} → f ≡ length symbols → length symbols ≤ mostSymbols → Chained symbols f (replicate mostSymbols 0) (replicate 256 f)
+  pub chained-none : {f : ℕ} → f ≡ length symbols → length symbols ≤ mostSymbols → Chained symbols f (replicate mostSymbols 0) (replicate sortsOfAByte f)
   unfolding nextsFrom firstFrom
   chained-none {f} behind room =
       let whole : length symbols + (mostSymbols - length symbols) ≡ mostSymbols = omega arith in
       record {
         so-far = rw (behind, drop-length symbols, replicate-append-replicate, whole);
-        sorts = length-replicate {A = ℕ} 256 f;
-        known = λ s small. rw (getD-replicate 256 s f 0 small, behind, drop-length symbols);
+        sorts = length-replicate {A = ℕ} sortsOfAByte f;
+        known = λ s small. rw (getD-replicate sortsOfAByte s f 0 small, behind, drop-length symbols);
       }
 
   -- at the first symbol the arrays are whole
-  pub chained-all : {next first : List ℕ} → Chained symbols 0 next first → (next ≡ inArray (nextsFrom symbols 0)) × (first ≡ firstsFrom symbols 256 0)
+  pub chained-all : {next first : List ℕ} → Chained symbols 0 next first → (next ≡ inArray (nextsFrom symbols 0)) × (first ≡ firstsFrom symbols sortsOfAByte 0)
   unfolding inArray
   chained-all {next} {first} r = (
     rw (r .so-far, length-nexts),
-    ext-getD 0 first (firstsFrom symbols 256 0) (r .sorts ∙ sym (length-firsts symbols 256 0)) λ s small.
+    ext-getD 0 first (firstsFrom symbols sortsOfAByte 0) (r .sorts ∙ sym (length-firsts symbols sortsOfAByte 0)) λ s small.
         r .known s (omega (arith, r .sorts)) ∙ sym (first-in-array symbols refl s (omega (arith, r .sorts))),
   )
 
@@ -140,11 +140,11 @@ module _ (symbols : Symbols) where
     on = rw (before, drop-cons symbols f noSymbol here)
 
     -- where symbol f is no constructor of the sort, the sort's first one stays
-    passed-over : (s : ℕ) → s < 256 → isConstructorOf s (symbolOf symbols f) ≡ false → getD first s 0 ≡ firstFrom s (drop f symbols) f
+    passed-over : (s : ℕ) → s < sortsOfAByte → isConstructorOf s (symbolOf symbols f) ≡ false → getD first s 0 ≡ firstFrom s (drop f symbols) f
     unfolding firstFrom
     passed-over s small other = rw (on, other, firstFrom, ← before) (r .known s small)
 
-    module _ (s : ℕ) (its-sort : symbolOf symbols f .sort ≡ s) (small : s < 256) where
+    module _ (s : ℕ) (its-sort : symbolOf symbols f .sort ≡ s) (small : s < sortsOfAByte) where
       -- what is stored for symbol f is its sort's next one
       stored : set next f (getD first s 0) ≡ nextsInArray symbols f
       unfolding nextsFrom
@@ -161,7 +161,7 @@ module _ (symbols : Symbols) where
 
       module _ (constructor : symbolOf symbols f .isOperation ≡ false) where
         -- it is the first one of its own sort
-        known-more : (t : ℕ) → t < 256 → Dec (t ≡ s) → getD (set first s f) t 0 ≡ firstFrom t (drop f symbols) f
+        known-more : (t : ℕ) → t < sortsOfAByte → Dec (t ≡ s) → getD (set first s f) t 0 ≡ firstFrom t (drop f symbols) f
         unfolding isConstructorOf firstFrom
         known-more t small′ (yes own) =
             rw (own, getD-set-same first s f 0 (omega (arith, r .sorts)), on, constructor, isConstructorOf, its-sort, eq-eqb s s refl, firstFrom)
@@ -187,7 +187,7 @@ WholeAnswered bs r places ranks next first =
 module _ (bs : List ℕ) {places ranks next first : List ℕ} where
   -- the part is refused
   pub whole-refused : {c q : ℕ} {r : Reading ℕ} → symbolPart bs ≡ refusal c q
-      → r ≡ refusal c q → places ≡ inArray [] → ranks ≡ inArray [] → next ≡ inArray [] → first ≡ replicate 256 0 → WholeAnswered bs r places ranks next first
+      → r ≡ refusal c q → places ≡ inArray [] → ranks ≡ inArray [] → next ≡ inArray [] → first ≡ replicate sortsOfAByte 0 → WholeAnswered bs r places ranks next first
   unfolding nextsAfter firstsAfter
   whole-refused refused reading placed ranked nexts firsts =
       let part = part-refused bs refused reading placed ranked in
@@ -197,7 +197,7 @@ module _ (bs : List ℕ) {places ranks next first : List ℕ} where
   pub whole-read : {count end : ℕ} → PartKept bs count end places
       → ranks ≡ inArray (ranksFrom (symbolsIn bs (take count places)) 0 (symbolsIn bs (take count places)))
       → next ≡ inArray (nextsFrom (symbolsIn bs (take count places)) 0)
-      → first ≡ firstsFrom (symbolsIn bs (take count places)) 256 0
+      → first ≡ firstsFrom (symbolsIn bs (take count places)) sortsOfAByte 0
       → WholeAnswered bs (got count end) places ranks next first
   unfolding nextsAfter firstsAfter
   whole-read kept ranked nexts firsts =

@@ -10,7 +10,7 @@ use native.Mathlib.Omega.{arith}
 use borrow.Author.Tests.{eq-eqb, ne-eqb}
 use lib.ListN.{length, getD, set, take, replicate, length-replicate, length-set, getD-replicate}
 use lib.Seq.{take-suc, take-all, length-take-le, append-snoc, set-at, getD-set-same, getD-set-other}
-use Rattle.limits.specs.Sizes.{mostSymbols}
+use Rattle.limits.specs.Sizes.{mostSymbols, sortsOfAByte}
 use Rattle.symbols.specs.Symbols.{Symbol, Symbols, symbolOf, isConstructorOf, constructorsBefore}
 use Rattle.symbols.specs.Table.{ranksFrom, inArray}
 
@@ -124,17 +124,17 @@ module _ (row : List ℕ) (f : ℕ) (here : f < length row) (room : length row �
 -- How far the code is at symbol f: the array has the ranks of the symbols before it, and of each sort the constructors before it are counted.
 pub record Ranked (symbols : Symbols) (f : ℕ) (ranks seen : List ℕ) : Type 0 where
   pub so-far : ranks ≡ inArray (take f (ranksFrom symbols 0 symbols))
-  pub sorts : length seen ≡ 256
-  pub counted : (s : ℕ) → s < 256 → getD seen s 0 ≡ constructorsBefore s symbols f
+  pub sorts : length seen ≡ sortsOfAByte
+  pub counted : (s : ℕ) → s < sortsOfAByte → getD seen s 0 ≡ constructorsBefore s symbols f
 
 module _ (symbols : Symbols) where
   -- at the first symbol all are zeros
-  pub ranked-none : Ranked symbols 0 (replicate mostSymbols 0) (replicate 256 0)
+  pub ranked-none : Ranked symbols 0 (replicate mostSymbols 0) (replicate sortsOfAByte 0)
   unfolding inArray
   ranked-none = record {
     so-far = refl;
-    sorts = length-replicate {A = ℕ} 256 0;
-    counted = λ s small. getD-replicate 256 s 0 0 small ∙ sym (none-before s symbols);
+    sorts = length-replicate {A = ℕ} sortsOfAByte 0;
+    counted = λ s small. getD-replicate sortsOfAByte s 0 0 small ∙ sym (none-before s symbols);
   }
 
   -- behind the last symbol the array has all ranks
@@ -143,7 +143,7 @@ module _ (symbols : Symbols) where
 
   module _ (f : ℕ) (here : f < length symbols) (room : length symbols ≤ mostSymbols) {ranks seen : List ℕ} (r : Ranked symbols f ranks seen) where
     -- symbol f adds one to its own sort
-    count-next : (s : ℕ) → s < 256 → constructorsBefore s symbols (f + 1) ≡ getD seen s 0 + oneIf (isConstructorOf s (symbolOf symbols f))
+    count-next : (s : ℕ) → s < sortsOfAByte → constructorsBefore s symbols (f + 1) ≡ getD seen s 0 + oneIf (isConstructorOf s (symbolOf symbols f))
     count-next s small = omega (arith, next-counts s symbols f here, r .counted s small)
 
     -- an operation has rank 0 and is not counted
@@ -155,13 +155,13 @@ module _ (symbols : Symbols) where
       counted = λ s small. rw (count-next s small, operation, isConstructorOf, add-zero);
     }
 
-    module _ (s : ℕ) (constructor : symbolOf symbols f .isOperation ≡ false) (its-sort : symbolOf symbols f .sort ≡ s) (small : s < 256) where
+    module _ (s : ℕ) (constructor : symbolOf symbols f .isOperation ≡ false) (its-sort : symbolOf symbols f .sort ≡ s) (small : s < sortsOfAByte) where
       -- its rank is what its sort has come to
       rank : getD (ranksFrom symbols 0 symbols) f 0 ≡ getD seen s 0
       rank = rw (rank-there symbols f here, constructor, rankOf, its-sort) (sym (r .counted s small))
 
       -- the count of its sort goes up, that of another sort stays
-      counts : (t : ℕ) → t < 256 → Dec (t ≡ s) → getD (set seen s (getD seen s 0 + 1)) t 0 ≡ constructorsBefore t symbols (f + 1)
+      counts : (t : ℕ) → t < sortsOfAByte → Dec (t ≡ s) → getD (set seen s (getD seen s 0 + 1)) t 0 ≡ constructorsBefore t symbols (f + 1)
       unfolding isConstructorOf
       counts t small′ (yes own) =
           rw (own, getD-set-same seen s _ 0 (omega (arith, r .sorts)), count-next s small, constructor, isConstructorOf, its-sort, eq-eqb s s refl)

@@ -6,7 +6,7 @@ use Prim.Native.Nat.{ℕ, zero, suc, _+_, _-_}
 use lib.Dec.{eqb}
 use lib.ListN.{length, getD, take, drop, replicate}
 use lib.Seq.{sets}
-use Rattle.limits.specs.Sizes.{mostSymbols}
+use Rattle.limits.specs.Sizes.{mostSymbols, sortsOfAByte}
 use Rattle.reading.specs.Reading.{Reading, got, refusal}
 use Rattle.symbols.specs.Symbols.{Symbol, Symbols, isConstructorOf, constructorsBefore}
 
@@ -17,6 +17,10 @@ symbolIn bs p = record {
   sort = getD bs (p + 2) 0;
   arguments = take (getD bs p 0 - 2) (drop (p + 3) bs);
 }
+
+-- the most arguments that it can have: a length byte, 255 at most, counts kind and sort too
+abbrev pub argumentsOfAByte : ℕ
+argumentsOfAByte = 253
 
 -- the symbols whose places are `at`
 unfoldable pub symbolsIn : List ℕ → List ℕ → Symbols
@@ -80,5 +84,5 @@ nextsAfter (got symbols p) = inArray (nextsFrom symbols 0)
 nextsAfter (refusal c p) = inArray []
 
 unfoldable pub firstsAfter : Reading Symbols → List ℕ
-firstsAfter (got symbols p) = firstsFrom symbols 256 0
-firstsAfter (refusal c p) = replicate 256 0
+firstsAfter (got symbols p) = firstsFrom symbols sortsOfAByte 0
+firstsAfter (refusal c p) = replicate sortsOfAByte 0

@@ -4,7 +4,7 @@ ghost use Prim.Native.Nat.{ℕ, _+_, _-_, _<_, _≤_};
 ghost use mathlib.Core.List.{[]};
 ghost use lib.ListN.{length, getD, replicate};
 ghost use Rattle.reading.specs.declared.Reading.the-variants.{Refusal};
-ghost use Rattle.limits.specs.Sizes.{mostBookBytes, mostSymbols};
+ghost use Rattle.limits.specs.Sizes.{mostBookBytes, mostSymbols, sortsOfAByte};
 ghost use Rattle.reading.specs.Answer.{readingOf, keeping, nothing};
 ghost use Rattle.symbols.specs.Symbols.{Symbols};
 ghost use Rattle.symbols.specs.SymbolPart.{sortsAt, symbolAt, symbolsAt, opened, symbolPart};
@@ -26,14 +26,14 @@ pub struct SymbolPart {
     pub at: [u16; Limits::SYMBOLS],
     pub ranks: [u16; Limits::SYMBOLS],
     pub next: [u16; Limits::SYMBOLS],
-    pub first: [u16; 256],
+    pub first: [u16; Limits::SORTS_OF_A_BYTE],
 }
 
 // The constructors of each sort, chained: the number of the next one behind each symbol, and of the first of each sort. Where there is
 // none it is the count of symbols.
 pub struct Chain {
     pub next: [u16; Limits::SYMBOLS],
-    pub first: [u16; 256],
+    pub first: [u16; Limits::SORTS_OF_A_BYTE],
 }
 
 // n argument sorts from p on: the place behind them.
@@ -169,7 +169,7 @@ fn ranks_of(book: &[u8], at: &[u16]) -> [u16; Limits::SYMBOLS]
     ensures { λ r. ⌜ r ≡ inArray (ranksFrom (symbolsIn (now (book .entry)) (now (at .entry))) 0 (symbolsIn (now (book .entry)) (now (at .entry)))) ⌝ }
 {
     let mut ranks = [0u16; Limits::SYMBOLS];
-    let mut seen = [0u16; 256];
+    let mut seen = [0u16; Limits::SORTS_OF_A_BYTE];
     let mut f: usize = 0;
     while f < at.len() {
         if !is_operation(book, at, f) {
@@ -186,10 +186,10 @@ fn ranks_of(book: &[u8], at: &[u16]) -> [u16; Limits::SYMBOLS]
 // Chains the constructors of each sort, from the last symbol to the first.
 fn chain_of(book: &[u8], at: &[u16]) -> Chain
     requires { ⌜ length (now at) ≤ mostSymbols ⌝ }
-    ensures { λ r. ⌜ (r .next ≡ inArray (nextsFrom (symbolsIn (now (book .entry)) (now (at .entry))) 0)) × (r .first ≡ firstsFrom (symbolsIn (now (book .entry)) (now (at .entry))) 256 0) ⌝ }
+    ensures { λ r. ⌜ (r .next ≡ inArray (nextsFrom (symbolsIn (now (book .entry)) (now (at .entry))) 0)) × (r .first ≡ firstsFrom (symbolsIn (now (book .entry)) (now (at .entry))) sortsOfAByte 0) ⌝ }
 {
     let mut next = [0u16; Limits::SYMBOLS];
-    let mut first = [at.len() as u16; 256];
+    let mut first = [at.len() as u16; Limits::SORTS_OF_A_BYTE];
     let mut f = at.len();
     while f != 0 {
         f -= 1;
@@ -203,14 +203,14 @@ fn chain_of(book: &[u8], at: &[u16]) -> Chain
 }
 
 fn refused(number: u8, place: usize) -> SymbolPart
-    ensures { λ r. ⌜ (r .reading ≡ Refusal number place) × (r .at ≡ inArray []) × (r .ranks ≡ inArray []) × (r .next ≡ inArray []) × (r .first ≡ replicate 256 0) ⌝ }
+    ensures { λ r. ⌜ (r .reading ≡ Refusal number place) × (r .at ≡ inArray []) × (r .ranks ≡ inArray []) × (r .next ≡ inArray []) × (r .first ≡ replicate sortsOfAByte 0) ⌝ }
 {
     SymbolPart {
         reading: Reading::Refusal { number, place },
         at: [0; Limits::SYMBOLS],
         ranks: [0; Limits::SYMBOLS],
         next: [0; Limits::SYMBOLS],
-        first: [0; 256],
+        first: [0; Limits::SORTS_OF_A_BYTE],
     }
 }
 

@@ -4,7 +4,7 @@ ghost use Prim.Native.Nat.{_+_, _-_, _<_, _≤_};
 ghost use lib.Dec.{eqb};
 ghost use lib.ListN.{getD, length};
 ghost use Rattle.symbols.specs.Symbols.{isConstructorOf};
-ghost use Rattle.symbols.specs.Table.{symbolIn};
+ghost use Rattle.symbols.specs.Table.{symbolIn, argumentsOfAByte};
 use reading::between;
 use reading::byte;
 use reading::part_of;
@@ -33,7 +33,7 @@ pub fn sort_of(book: &[u8], at: &[u16], f: usize) -> u8
 
 // The bytes of the argument sorts.
 pub fn arguments_of<'a>(book: &'a [u8], at: &[u16], f: usize) -> &'a [u8]
-    ensures { λ r. ⌜ (now r ≡ symbolIn (now (book .entry)) (getD (now (at .entry)) f 0) .arguments) × (length (now r) ≤ 253) ⌝ }
+    ensures { λ r. ⌜ (now r ≡ symbolIn (now (book .entry)) (getD (now (at .entry)) f 0) .arguments) × (length (now r) ≤ argumentsOfAByte) ⌝ }
 {
     let p = place_of(at, f);
     let from = p + 3;
@@ -43,7 +43,7 @@ pub fn arguments_of<'a>(book: &'a [u8], at: &[u16], f: usize) -> &'a [u8]
 
 // How many arguments it takes.
 pub fn arity_of(book: &[u8], at: &[u16], f: usize) -> usize
-    ensures { λ r. ⌜ (r ≡ length (symbolIn (now (book .entry)) (getD (now (at .entry)) f 0) .arguments)) × (r ≤ 253) ⌝ }
+    ensures { λ r. ⌜ (r ≡ length (symbolIn (now (book .entry)) (getD (now (at .entry)) f 0) .arguments)) × (r ≤ argumentsOfAByte) ⌝ }
 {
     arguments_of(book, at, f).len()
 }

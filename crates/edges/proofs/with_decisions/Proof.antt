@@ -1,6 +1,7 @@
 -- `with_decisions` meets its contract: each decision is one nearer to the last, and the checksum stays below 2^32.
 use Prim.Native.Nat.{_-_, _<_}
 use borrow.Author.Needs.{needs}
+use Rattle.limits.specs.Sizes.{mostChoices}
 use Rattle.edges.proofs.with_decisions.Statement.{statement}
 use Rattle.edges.proofs.with_decisions.Tie as tie
 
@@ -8,7 +9,7 @@ abbrev Inv-loop : tie.InvT-loop
 Inv-loop c d sum₀ i₀ sum i = sum < 4294967296
 
 abbrev μ-loop : tie.MeasureT-loop
-μ-loop c d sum₀ i₀ sum i = 256 - i
+μ-loop c d sum₀ i₀ sum i = mostChoices - i
 
 loop-holds : tie.Need-loop-holds Inv-loop μ-loop
 loop-holds c = search needs

@@ -7,6 +7,7 @@ use Prim.Native.Nat.{ℕ, _+_, _-_, _*_, _<_, _≤_}
 use native.Mathlib.Omega.{arith}
 use lib.ListN.{length, getD, take}
 use lib.Seq.{getD-take}
+use Rattle.limits.specs.Sizes.{mostVariables}
 use Rattle.reading.specs.Answer.{readingOf, nothing}
 use Rattle.symbols.specs.Table.{symbolIn, symbolsIn}
 use Rattle.expressions.specs.ExpressionAt.{leftOf}
@@ -124,7 +125,7 @@ read-cases-arguments-of-requires t c κs = search needs
 -- a case binds no more variables than there are
 read-cases-fits : (t : ℕ) (c : read-cases-lts.In-loop (read-cases-claims t) (read-cases-at t) read-cases.Post read-cases-Inv-loop read-cases-μ-loop)
     → let a = c .before .before .before .before .before .args in
-    a .path .bound + length (symbolIn (a .book .now) (getD (a .at .now) (c .before .loop .f) 0) .arguments) ≤ 32
+    a .path .bound + length (symbolIn (a .book .now) (getD (a .at .now) (c .before .loop .f) 0) .arguments) ≤ mostVariables
 read-cases-fits t c =
     let l = c .before .loop in
     let a = c .before .before .before .before .before .args in
@@ -290,7 +291,7 @@ read-tree-enum-known-x : (t : ℕ) → read-tree-lts.Need-enum-known-x (read-tre
 read-tree-enum-known-x t c = search needs
 
 -- there is a sort and a flag for each variable
-read-tree-room : (t : ℕ) (c : read-tree-lts.Start (read-tree-claims t) (read-tree-at t) read-tree.Post) → (length (c .args .t8 .sorts) ≡ 32) × (length (c .args .t8 .done) ≡ 32)
+read-tree-room : (t : ℕ) (c : read-tree-lts.Start (read-tree-claims t) (read-tree-at t) read-tree.Post) → (length (c .args .t8 .sorts) ≡ mostVariables) × (length (c .args .t8 .done) ≡ mostVariables)
 read-tree-room t c = search needs
 
 -- where the variable to branch on was read, the branch may be made

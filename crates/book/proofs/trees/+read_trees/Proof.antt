@@ -7,6 +7,7 @@ use native.Mathlib.Numerals.{add-one}
 use native.Mathlib.Omega.{arith}
 use borrow.Author.Tests.{not-true, not-false}
 use lib.ListN.{length, getD}
+use Rattle.limits.specs.Sizes.{mostBookBytes}
 use Rattle.reading.specs.Reading.{Reading}
 use Rattle.reading.specs.Answer.{readingOf, keeping, nothing}
 use Rattle.reading.proofs.Good.{good-got}
@@ -101,7 +102,7 @@ read-trees-enum-known-behind t c = search needs
 
 -- an operation's tree that was read stands in the book
 read-trees-item-within : (t : ℕ) (c : read-trees-lts.After-known-told2 (read-trees-claims t) (read-trees-at t) read-trees.Post)
-    → c .before .before .before .before .before .before .before .before .before .before .args .p + 2 ≤ 32768
+    → c .before .before .before .before .before .before .before .before .before .before .args .p + 2 ≤ mostBookBytes
 read-trees-item-within t c =
     let item = c .before .before .before in
     let s = item .before .before .before .before .before .before .before in

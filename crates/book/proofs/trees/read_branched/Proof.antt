@@ -5,6 +5,7 @@ use Prim.Native.Nat.{_≤_}
 use native.Mathlib.Omega.{arith}
 use lib.ListN.{length}
 use lib.Seq.{length-take-le}
+use Rattle.limits.specs.Sizes.{mostVariables}
 use Rattle.reading.specs.Answer.{readingOf}
 use Rattle.symbols.specs.Table.{symbolsIn}
 use Rattle.book.specs.Reader.{varsOf, Branched}
@@ -16,7 +17,7 @@ use Rattle.book.proofs.trees.read_branched.Tie as tie
 -- there is a sort for each variable that is bound
 room : (c : tie.Start) → c .args .t6 .bound ≤ length (c .args .t6 .sorts)
 room c =
-    let full : length (c .args .t6 .sorts) ≡ 32 = search needs in
+    let full : length (c .args .t6 .sorts) ≡ mostVariables = search needs in
     omega arith
 
 byte-at-requires : tie.Need-byte-at-requires

@@ -3,9 +3,10 @@ use borrow.Author.Needs.{needs}
 use mathlib.Core.Bool.{Bool}
 use mathlib.Core.List.{List, [], _++_}
 use mathlib.Core.Path.{_≡_, sym, ap, subst, _∙_}
-use Prim.Native.Nat.{ℕ, _≤_, _<_}
+use Prim.Native.Nat.{ℕ, suc, _≤_, _<_}
 use native.Mathlib.Omega.{arith}
 use lib.ListN.{length, getD, take}
+use Rattle.limits.specs.Sizes.{mostVariables, mostArguments}
 use Rattle.reading.specs.Reading.{Reading, got}
 use Rattle.reading.specs.Answer.{readingOf, keeping, nothing}
 use Rattle.reading.proofs.Good.{good-got, length-good}
@@ -22,14 +23,14 @@ use Rattle.book.proofs.trees.read_item.Statement.{statement}
 use Rattle.book.proofs.trees.read_item.Tie as tie
 
 -- the symbol at a place of the table has few arguments
-few-there : (bs places : List ℕ) (f : ℕ) → f < length places → FewArguments (symbolsIn bs places) → length (symbolIn bs (getD places f 0) .arguments) ≤ 8
+few-there : (bs places : List ℕ) (f : ℕ) → f < length places → FewArguments (symbolsIn bs places) → length (symbolIn bs (getD places f 0) .arguments) ≤ mostArguments
 unfolding FewArguments
 few-there bs places f h few = rw (symbol-there bs places f h) at (few f (omega (arith, as-many bs places)))
 
 -- what is told of the tree, by the operation's own sort and arguments
 operation-told : (bs : List ℕ) (S : Symbols) (x : Symbol) (e q : ℕ) {r : Reading ℕ} {was is : List ℕ} (sort : ℕ) (vars : List ℕ) → sort ≡ x .sort → vars ≡ x .arguments
-    → (let tree = treeIn bs S sort e 33 vars [] q in (r ≡ keeping nothing tree) × Marked q tree was is)
-    → Told q r (treeIn bs S (x .sort) e 33 (x .arguments) [] q) was is
+    → (let tree = treeIn bs S sort e (suc mostVariables) vars [] q in (r ≡ keeping nothing tree) × Marked q tree was is)
+    → Told q r (treeIn bs S (x .sort) e (suc mostVariables) (x .arguments) [] q) was is
 operation-told bs S x e q sort vars its-sort its-arguments told =
     let its-own = rw (its-sort, its-arguments) at told in
     record { answer = its-own .0; marks = its-own .1 }
@@ -83,7 +84,7 @@ tree-told : (c : tie.After-read-tree) {r : Reading ℕ} → readingOf (c .read-t
     let x = symbolIn (a .book .now) (getD (a .at .now) (a .f) 0) in
     let end = item .item .given .0 .0 in
     let q = item .item .given .0 .1 .0 in
-    Told q r (treeIn (a .book .now) (symbolsIn (a .book .now) (a .at .now)) (x .sort) end 33 (x .arguments) [] q) (a .ends .now) (c .read-tree .last .1 .1 .1 .1 .1 .1 .1 .1 .0)
+    Told q r (treeIn (a .book .now) (symbolsIn (a .book .now) (a .at .now)) (x .sort) end (suc mostVariables) (x .arguments) [] q) (a .ends .now) (c .read-tree .last .1 .1 .1 .1 .1 .1 .1 .1 .0)
 unfolding Branched
 tree-told c answered =
     let sort = c .before .before .sort-of in

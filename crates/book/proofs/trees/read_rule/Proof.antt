@@ -7,6 +7,7 @@ use native.Mathlib.Nat.{sub-zero}
 use native.Mathlib.Omega.{arith}
 use lib.ListN.{length, take}
 use lib.Seq.{length-take-le}
+use Rattle.limits.specs.Sizes.{mostVariables}
 use Rattle.reading.specs.Answer.{keeping, partOf}
 use Rattle.symbols.specs.Symbols.{Symbols}
 use Rattle.symbols.specs.Table.{symbolsIn}
@@ -28,7 +29,7 @@ part-read-whole-start c = search needs
 
 part-read-whole-end : tie.Need-part-read-whole-end
 part-read-whole-end c =
-    let room : length (c .before .before .before .before .args .path .sorts) ≡ 32 = search needs in
+    let room : length (c .before .before .before .before .args .path .sorts) ≡ mostVariables = search needs in
     omega arith
 
 read-whole-requires : tie.Need-read-whole-requires

@@ -5,6 +5,7 @@ use mathlib.Core.Path.{_≡_, sym, _∙_}
 use Prim.Native.Nat.{_+_, _*_, _-_, _≤_}
 use native.Mathlib.Omega.{arith}
 use lib.ListN.{length}
+use Rattle.limits.specs.Sizes.{mostChoices}
 use Rattle.limits.specs.declared.Side.{Side}
 use Rattle.limits.specs.declared.Side.the-variants.{Open, Left, Right}
 use Rattle.machine.specs.Answers.{decisionNumbers}
@@ -19,10 +20,10 @@ use Rattle.limits.proofs.Decisions.side.Reads as side-reads
 use Rattle.run.proofs.answers.put_two.Reads as put-two-reads
 
 abbrev Inv-loop : tie.InvT-loop
-Inv-loop bytes₀ ds from p₀ i₀ bytes p i = (i ≤ 256) × Turned (ds .words) bytes₀ from i bytes p
+Inv-loop bytes₀ ds from p₀ i₀ bytes p i = (i ≤ mostChoices) × Turned (ds .words) bytes₀ from i bytes p
 
 abbrev μ-loop : tie.MeasureT-loop
-μ-loop bytes₀ ds from p₀ i₀ bytes p i = 256 - i
+μ-loop bytes₀ ds from p₀ i₀ bytes p i = mostChoices - i
 
 -- where the side of choice i is read
 abbrev AfterSide : Type 0

@@ -6,14 +6,14 @@ use native.Mathlib.Nat.{add-sub-cancel-left, min-le-left}
 use native.Mathlib.Omega.{arith}
 use lib.ListN.{length, getD, drop, length-take}
 use Rattle.reading.specs.Answer.{partOf}
-use Rattle.symbols.specs.Table.{symbolIn}
+use Rattle.symbols.specs.Table.{symbolIn, argumentsOfAByte}
 use borrow.Author.Needs.{needs}
 use Rattle.symbols.proofs.table.arguments_of.Statement.{statement}
 use Rattle.symbols.proofs.table.arguments_of.Tie as tie
 
 -- what the code takes from its place q on, as many bytes as its length byte n says, are the arguments at p; a byte counts few
 part-taken : (bs : List ℕ) {p q n count : ℕ} {part : List ℕ} → q ≡ p → n ≡ getD bs q 0 → n < 256 → count ≡ n - 2
-    → part ≡ partOf bs (q + 3) (q + 3 + count) → (part ≡ symbolIn bs p .arguments) × (length part ≤ 253)
+    → part ≡ partOf bs (q + 3) (q + 3 + count) → (part ≡ symbolIn bs p .arguments) × (length part ≤ argumentsOfAByte)
 unfolding symbolIn
 part-taken bs {q = q} {n = n} place size few counts taken =
     let whole = simp (counts, add-sub-cancel-left) at taken in

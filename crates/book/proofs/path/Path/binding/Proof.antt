@@ -4,6 +4,7 @@ use Prim.Native.Nat.{_+_, _-_, _≤_}
 use native.Mathlib.Omega.{arith}
 use lib.ListN.{length}
 use lib.Seq.{paste, paste-zero}
+use Rattle.limits.specs.Sizes.{mostVariables}
 use Rattle.limits.proofs.Copies.{copy-more, copied}
 use borrow.Author.Needs.{needs}
 use Rattle.book.proofs.path.Path.binding.Statement.{statement}
@@ -11,7 +12,7 @@ use Rattle.book.proofs.path.Path.binding.Tie as tie
 
 abbrev Inv-loop : tie.InvT-loop
 Inv-loop sorts path₀ first j₀ path j =
-    (j ≤ length sorts) × (first ≡ path₀ .bound) × (first + length sorts ≤ 32) × (length (path₀ .sorts) ≡ 32)
+    (j ≤ length sorts) × (first ≡ path₀ .bound) × (first + length sorts ≤ mostVariables) × (length (path₀ .sorts) ≡ mostVariables)
     × (path .bound ≡ path₀ .bound) × (path .done ≡ path₀ .done) × (path .sorts ≡ paste (path₀ .sorts) first sorts j)
 
 abbrev μ-loop : tie.MeasureT-loop
