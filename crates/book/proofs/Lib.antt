@@ -9,3 +9,4 @@ pub mod CaseWays
 pub mod TreeTold
 pub mod Questions
 pub mod BookWays
+pub mod CountWays

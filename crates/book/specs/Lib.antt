@@ -5,3 +5,4 @@ pub mod Admission
 pub mod Index
 pub mod Reader
 pub mod TreesRead
+pub mod RowsRead

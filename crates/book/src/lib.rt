@@ -1,15 +1,16 @@
 // Admission of a whole book and a whole question, and the index that a run needs.
 ghost use mathlib.Core.Path.{_≡_};
-ghost use Prim.Native.Nat.{_≤_};
+ghost use Prim.Native.Nat.{_+_, _≤_};
 ghost use mathlib.Core.List.{[]};
 ghost use lib.ListN.{length, replicate};
-ghost use Rattle.limits.specs.Sizes.{mostBookBytes};
+ghost use Rattle.limits.specs.Sizes.{mostBookBytes, mostSymbols};
 ghost use Rattle.reading.specs.declared.Reading.the-variants.{Refusal};
 ghost use Rattle.reading.specs.Answer.{readingOf, keeping, nothing};
 ghost use Rattle.symbols.specs.Table.{symbolsIn, inArray};
 ghost use Rattle.book.specs.Rules.{Rules};
 ghost use Rattle.book.specs.Admission.{readBook, questionOpened, askedAt, readQuestion};
 ghost use Rattle.book.specs.Index.{atAfter, infoAfter, endsAfter};
+ghost use Rattle.book.specs.RowsRead.{rowsRead};
 
 mod path;
 mod trees;
@@ -22,8 +23,10 @@ use reading::byte;
 use reading::byte_at;
 use reading::length_at;
 use symbols::part::read_symbol_part;
+use symbols::part::symbols_read;
 use trees::TreePart;
 use trees::read_tree_part;
+use trees::trees_read;
 
 // A book that was read: how many symbols it has, or the refusal; and its index. `at` has the place of each symbol; `info` an
 // operation's tree, or which of its sort's constructors a symbol is; `ends` at the place of each tree the place behind it. After a
@@ -79,6 +82,26 @@ pub fn read_book(book: &[u8]) -> BookIndex
                     }
                 }
             }
+        }
+    }
+}
+
+// How many rows of a book, its symbols and then its operations' trees, are read whole before the first fault, or the book's end.
+pub fn rows_read(book: &[u8]) -> usize
+    ensures { λ r. ⌜ (r ≡ rowsRead (now (book .entry))) × (r ≤ mostSymbols + mostSymbols) ⌝ }
+{
+    let symbols = read_symbol_part(book);
+    let reading = symbols.reading;
+    match reading {
+        Reading::Refusal {
+            number: _,
+            place: _,
+        } => symbols_read(book),
+        Reading::Got { value: count, next } => {
+            let at = symbols.at;
+            let next_of = symbols.next;
+            let first = symbols.first;
+            count + trees_read(book, &at[0..count], &next_of, &first, next)
         }
     }
 }

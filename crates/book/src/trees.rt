@@ -3,7 +3,7 @@ ghost use mathlib.Core.Bool.{false};
 ghost use mathlib.Core.List.{List};
 ghost use mathlib.Core.Path.{_≡_};
 ghost use Prim.Native.Nat.{ℕ, _+_, _<_, _≤_};
-ghost use lib.ListN.{length, getD, replicate};
+ghost use lib.ListN.{length, getD, replicate, drop};
 ghost use Rattle.limits.specs.Sizes.{mostBookBytes, mostSymbols, mostVariables};
 ghost use Rattle.reading.specs.Answer.{readingOf, keeping, nothing};
 ghost use Rattle.symbols.specs.Symbols.{constructorsOf};
@@ -11,6 +11,7 @@ ghost use Rattle.symbols.specs.Table.{symbolsIn};
 ghost use Rattle.expressions.specs.ExpressionAt.{leftOf, wholeAt};
 ghost use Rattle.book.specs.TreeAt.{bindsPast, branchedAt};
 ghost use Rattle.book.specs.Reader.{varsOf, Branched, FewArguments, handedOn, markedBy, Inside};
+ghost use Rattle.book.specs.RowsRead.{treesReadAt, treesRead};
 ghost use Rattle.book.specs.TreesRead.{Tabled, CasesFit, TreeRead, CasesRead, ItemRead, TreesRead, PartRead};
 use super::path::Path;
 use expressions::read_whole;
@@ -401,5 +402,61 @@ fn read_all(
                 Reading::Got { value: 0, next: r }
             }
         },
+    }
+}
+
+// The count of trees read whole, after `count` of them: those of the operations from symbol f on, until one is at fault.
+fn count_trees(
+    book: &[u8],
+    at: &[u16],
+    next: &[u16; Limits::SYMBOLS],
+    first: &[u16; 256],
+    e: usize,
+    f: usize,
+    p: usize,
+    count: usize,
+    ends: &mut [u16; Limits::BOOK],
+) -> usize
+    requires { ⌜ (e ≤ length (now book)) × (e ≤ mostBookBytes) × Tabled (now book) (now at) (now next) (now first) × FewArguments (symbolsIn (now book) (now at)) × (count ≤ f) × (f ≤ length (now at)) ⌝ }
+    ensures { λ r. ⌜ (r ≡ count + treesReadAt (now (book .entry)) (symbolsIn (now (book .entry)) (now (at .entry))) e (drop f (symbolsIn (now (book .entry)) (now (at .entry)))) p) × (r ≤ mostSymbols) ⌝ }
+{
+    if at.len() <= f {
+        return count;
+    }
+    if !is_operation(book, at, f) {
+        return count_trees(book, at, next, first, e, f + 1, p, count, ends);
+    }
+    match read_item(book, at, next, first, e, f, ends, p) {
+        Reading::Refusal {
+            number: _,
+            place: _,
+        } => count,
+        Reading::Got {
+            value: _,
+            next: behind,
+        } => count_trees(book, at, next, first, e, f + 1, behind, count + 1, ends),
+    }
+}
+
+// How many trees of the tree part, whose length stands at p, are read whole before the first fault, or its end.
+pub(crate) fn trees_read(
+    book: &[u8],
+    at: &[u16],
+    next: &[u16; Limits::SYMBOLS],
+    first: &[u16; 256],
+    p: usize,
+) -> usize
+    requires { ⌜ (length (now book) ≤ mostBookBytes) × Tabled (now book) (now at) (now next) (now first) × FewArguments (symbolsIn (now book) (now at)) ⌝ }
+    ensures { λ r. ⌜ (r ≡ treesRead (now (book .entry)) (symbolsIn (now (book .entry)) (now (at .entry))) p) × (r ≤ mostSymbols) ⌝ }
+{
+    match length_at(book, Asker::Book, book.len(), p) {
+        Reading::Refusal {
+            number: _,
+            place: _,
+        } => 0,
+        Reading::Got { value: e, next: q } => {
+            let mut ends = [0u16; Limits::BOOK];
+            count_trees(book, at, next, first, e, 0, q, 0, &mut ends)
+        }
     }
 }

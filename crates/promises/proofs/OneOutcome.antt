@@ -23,6 +23,9 @@ use Rattle.reading.specs.Reading.{Reading}
 use Rattle.reading.specs.Answer.{readingOf}
 use Rattle.symbols.specs.declared.part.SymbolPart.{SymbolPart}
 use Rattle.book.specs.declared.BookIndex.{BookIndex}
+use Rattle.writer.specs.declared.Written.{Written}
+use Rattle.writer.specs.Write.{Outcome as Writing}
+use Rattle.writer.specs.InCode.{after as writtenAs}
 use Rattle.nodes.specs.declared.Row.{Row}
 use Rattle.machine.specs.Run.{Memory as LentMemory, Result, Outcome}
 use Rattle.run.specs.declared.whole.Outcome.{Outcome as CodeOutcome}
@@ -99,6 +102,13 @@ pub one-index : {t : Reading ℕ} {at info ends : List ℕ} (r r′ : BookIndex)
     → r ≡ r′
 one-index r r′ (reading, at, info, ends) (reading′, at′, info′, ends′) =
     rw (one-reading (r .reading) (r′ .reading) reading reading′, at, info, ends, at′, info′, ends′) refl
+
+-- what the book writer hands back, and the room lent after it
+pub one-written : {t : Writing} (r r′ : Written) (room room′ : List ℕ) → writtenAs r room ≡ t → writtenAs r′ room′ ≡ t → (r ≡ r′) × (room ≡ room′)
+one-written r r′ room room′ one other =
+    let same = one-value one other in
+    let back : Writing → Written = λ o. record { number = o .result .number; row = o .result .row; bytes = o .result .bytes } in
+    (ap back same, ap (λ (o : Writing). o .room) same)
 
 -- the code's result, back from the seven numbers that it means: it holds nothing else
 abbrev codeOf : Result → CodeOutcome

@@ -23,9 +23,12 @@ use Rattle.symbols.proofs.table.sort_of as sort-of
 use Rattle.symbols.proofs.table.arguments_of as arguments-of
 use Rattle.symbols.proofs.table.arity_of as arity-of
 use Rattle.symbols.proofs.part.read_symbol_part as read-symbol-part
+use Rattle.symbols.proofs.part.symbols_read as symbols-read
 use Rattle.expressions.proofs.read_whole as read-whole
 use Rattle.book.proofs.read_book as read-book
 use Rattle.book.proofs.read_question as read-question
+use Rattle.book.proofs.rows_read as rows-read
+use Rattle.writer.proofs.write_book as write-book
 use Rattle.nodes.proofs.Row.apply as row-apply
 use Rattle.nodes.proofs.Row.choice as row-choice
 use Rattle.nodes.proofs.Row.fail as row-fail
@@ -41,7 +44,7 @@ use Rattle.run.proofs.run
 use Rattle.run.proofs.run_owned as run-owned
 use Rattle.promises.proofs.Contracts.{leftBy}
 use Rattle.promises.proofs.OneOutcome.{OneOutcome, OneResult, by-claim, one-value, one-bounded, one-set, one-row, one-reading}
-use Rattle.promises.proofs.OneOutcome.{one-symbol-part, one-index, one-run, one-owned}
+use Rattle.promises.proofs.OneOutcome.{one-symbol-part, one-index, one-written, one-run, one-owned}
 
 -- crate `limits`
 pub all-open-one : OneResult all-open.ended (λ M. all-open.clauses)
@@ -106,6 +109,9 @@ arity-of-one = by-claim arity-of.ended (λ κs a z z′ e e′. one-bounded)
 pub read-symbol-part-one : OneResult read-symbol-part.ended (λ M. read-symbol-part.clauses)
 read-symbol-part-one = by-claim read-symbol-part.ended (λ κs a z z′ e e′. one-symbol-part z z′)
 
+pub symbols-read-one : OneResult symbols-read.ended (λ M. symbols-read.clauses)
+symbols-read-one = by-claim symbols-read.ended (λ κs a z z′ e e′. one-bounded)
+
 -- crate `expressions`
 pub read-whole-one : OneResult read-whole.ended (λ M. read-whole.clauses)
 read-whole-one = by-claim read-whole.ended (λ κs a z z′ e e′. one-reading z z′)
@@ -116,6 +122,13 @@ read-book-one = by-claim read-book.ended (λ κs a z z′ e e′. one-index z z�
 
 pub read-question-one : OneResult read-question.ended (λ M. read-question.clauses)
 read-question-one = by-claim read-question.ended (λ κs a z z′ e e′. one-reading z z′)
+
+pub rows-read-one : OneResult rows-read.ended (λ M. rows-read.clauses)
+rows-read-one = by-claim rows-read.ended (λ κs a z z′ e e′. one-bounded)
+
+-- crate `writer`
+pub write-book-one : OneOutcome write-book.ended (λ κs z z′ e e′. (z ≡ z′) × (now (e .1 .1 .0) ≡ now (e′ .1 .1 .0))) (λ M. write-book.clauses)
+write-book-one = by-claim write-book.ended (λ κs a z z′ e e′. one-written z z′ (now (e .1 .1 .0)) (now (e′ .1 .1 .0)))
 
 -- crate `nodes`
 pub row-apply-one : OneResult row-apply.ended (λ M. row-apply.clauses)

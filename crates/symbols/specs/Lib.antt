@@ -1,3 +1,4 @@
 pub mod Symbols
 pub mod SymbolPart
+pub mod SymbolsRead
 pub mod Table

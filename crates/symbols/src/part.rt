@@ -8,6 +8,7 @@ ghost use Rattle.limits.specs.Sizes.{mostBookBytes, mostSymbols, sortsOfAByte};
 ghost use Rattle.reading.specs.Answer.{readingOf, keeping, nothing};
 ghost use Rattle.symbols.specs.Symbols.{Symbols};
 ghost use Rattle.symbols.specs.SymbolPart.{sortsAt, symbolAt, symbolsAt, opened, symbolPart};
+ghost use Rattle.symbols.specs.SymbolsRead.{symbolsReadAt, symbolsRead};
 ghost use Rattle.symbols.specs.Table.{symbolsIn, counted, PlacedAfter, ranksFrom, nextsFrom, firstsFrom, inArray, placesAfter, ranksAfter, nextsAfter, firstsAfter};
 use super::table::is_operation;
 use super::table::sort_of;
@@ -238,5 +239,35 @@ pub fn read_symbol_part(book: &[u8]) -> SymbolPart
                 }
             }
         }
+    }
+}
+
+// The count of symbols read whole, with `before` of them in front of p: the reading stops at a fault or at the part's end e.
+fn count_symbols(s: &[u8], e: usize, before: usize, p: usize) -> usize
+    requires { ⌜ (e ≤ length (now s)) × (e ≤ mostBookBytes) × (before ≤ mostSymbols) ⌝ }
+    ensures { λ r. ⌜ ((bound : ℕ) → e - p ≤ bound → r ≡ before + symbolsReadAt (now (s .entry)) bound e before p) × (r ≤ mostSymbols) ⌝ }
+{
+    if e <= p {
+        return before;
+    }
+    match read_symbol(s, e, before, p) {
+        Reading::Refusal {
+            number: _,
+            place: _,
+        } => before,
+        Reading::Got { value: _, next } => count_symbols(s, e, before + 1, next),
+    }
+}
+
+// How many symbols of a book are read whole before the first fault, or the part's end.
+pub fn symbols_read(book: &[u8]) -> usize
+    ensures { λ r. ⌜ (r ≡ symbolsRead (now (book .entry))) × (r ≤ mostSymbols) ⌝ }
+{
+    match open_part(book) {
+        Reading::Refusal {
+            number: _,
+            place: _,
+        } => 0,
+        Reading::Got { value: e, next: q } => count_symbols(book, e, 0, q),
     }
 }

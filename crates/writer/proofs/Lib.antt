@@ -1,0 +1,10 @@
+pub mod Splitting
+pub mod Bounds
+pub mod Putting
+pub mod Dues
+pub mod Leftover
+pub mod Making
+pub mod SymbolRows
+pub mod ExprRows
+pub mod TreeRows
+pub mod Exact

@@ -1,0 +1,5 @@
+pub mod Rows
+pub mod Layout
+pub mod Write
+pub mod InCode
+pub mod Exact
