@@ -1,13 +1,13 @@
 -- `chain_of` meets its contract. The loop's invariant: the symbols from f on are chained, and of each sort the first constructor among them is known.
 use mathlib.Core.List.{List}
-use mathlib.Core.Path.{_≡_}
+use mathlib.Core.Path.{_≡_, _∙_}
 use Prim.Native.Nat.{ℕ, suc, _-_, _<_, _≤_}
 use native.Mathlib.Omega.{arith}
 use borrow.Author.Tests.{not-true, not-false}
-use lib.ListN.{length, getD}
+use lib.ListN.{length}
 use Rattle.symbols.specs.Symbols.{symbolOf}
-use Rattle.symbols.specs.Table.{symbolIn, symbolsIn}
-use Rattle.symbols.proofs.Tables.{symbol-there, as-many}
+use Rattle.symbols.specs.Table.{symbolsIn}
+use Rattle.symbols.proofs.Tables.{kind-there, sort-there, as-many}
 use Rattle.symbols.proofs.Chains.{Chained, chained-none, chained-operation, chained-constructor, chained-all}
 use borrow.Author.Needs.{needs}
 use Rattle.symbols.proofs.part.chain_of.Statement.{statement}
@@ -45,9 +45,13 @@ module _ (c : AfterLooking) where
   here : from - 1 < length (symbolsIn book places)
   here = omega (arith, as-many book places)
 
-  -- at the place that the table has for it
-  there : symbolOf (symbolsIn book places) (from - 1) ≡ symbolIn book (getD places (from - 1) 0)
-  there = symbol-there book places (from - 1) (omega arith)
+  -- its sort is what the code has looked up
+  its-sort : symbolOf (symbolsIn book places) (from - 1) .sort ≡ c .before .sort-of .result
+  its-sort = sort-there book places (from - 1) (omega arith) (c .before .sort-of .ensures)
+
+  -- and so is its kind
+  its-kind : symbolOf (symbolsIn book places) (from - 1) .isOperation ≡ c .is-operation .result
+  its-kind = kind-there book places (from - 1) (omega arith) (c .is-operation .ensures)
 
 cast-first : tie.Need-cast-first Inv-loop μ-loop
 cast-first c = search needs
@@ -99,7 +103,7 @@ loop-again c =
     let looked = c .before in
     let constructor = not-true (looked .is-operation .result) (c .if1 .taken) in
     let r = looked .before .before .before .loop .inv .1 in
-    (omega arith, chained-constructor _ (before looked) (here looked) r (looked .before .sort-of .result) (cc (there looked)) (omega arith) (cc (there looked)))
+    (omega arith, chained-constructor _ (before looked) (here looked) r (looked .before .sort-of .result) (its-sort looked) (omega arith) (its-kind looked ∙ constructor))
 
 loop-less-2 : tie.Need-loop-less-2 Inv-loop μ-loop
 loop-less-2 c = search needs
@@ -109,7 +113,7 @@ loop-again-2 c =
     let looked = c .before in
     let operation = not-false (looked .is-operation .result) (c .if1 .left) in
     let r = looked .before .before .before .loop .inv .1 in
-    (omega arith, chained-operation _ (before looked) (here looked) r (looked .before .sort-of .result) (cc (there looked)) (omega arith) (cc (there looked)))
+    (omega arith, chained-operation _ (before looked) (here looked) r (looked .before .sort-of .result) (its-sort looked) (omega arith) (its-kind looked ∙ operation))
 
 returns : tie.Need-returns Inv-loop μ-loop
 returns c =

@@ -1,4 +1,5 @@
 -- `ranks_of` meets its contract. The loop's invariant: of the symbols passed the ranks stand in the array, and the constructors of each sort are counted.
+use mathlib.Core.Path.{_∙_}
 use mathlib.Core.Logic.{⊎-elim}
 use Prim.Native.Nat.{_-_, _<_, _≤_}
 use native.Mathlib.Omega.{arith}
@@ -6,7 +7,7 @@ use borrow.Author.Tests.{not-true, not-false}
 use lib.ListN.{length}
 use Rattle.limits.specs.Sizes.{mostSymbols}
 use Rattle.symbols.specs.Table.{symbolsIn}
-use Rattle.symbols.proofs.Tables.{symbol-there, as-many}
+use Rattle.symbols.proofs.Tables.{kind-there, sort-there, as-many}
 use Rattle.symbols.proofs.Ranks.{Ranked, few-before, ranked-none, ranked-operation, ranked-constructor, ranked-all}
 use borrow.Author.Needs.{needs}
 use Rattle.symbols.proofs.part.ranks_of.Statement.{statement}
@@ -69,12 +70,14 @@ loop-again c =
     let many = as-many (a .book .now) (a .at .now) in
     let here : loop .f < length symbols = omega arith in
     let room : length symbols ≤ mostSymbols = omega arith in
-    let there = symbol-there (a .book .now) (a .at .now) (loop .f) (c .before .before .loop-test .taken) in
-    let operation = c .before .is-operation .result in (
+    let present = c .before .before .loop-test .taken in
+    let operation = c .before .is-operation .result in
+    let its-kind = kind-there (a .book .now) (a .at .now) (loop .f) present (c .before .is-operation .ensures) in (
       omega arith,
       ⊎-elim
-          (λ w. rw (w .2, w .3) (ranked-constructor symbols (loop .f) here room (loop .inv .1) (w .1 .result) (cc (not-true operation (w .0 .taken))) (cc) (omega arith)))
-          (λ w. rw (w .1, w .2) (ranked-operation symbols (loop .f) here room (loop .inv .1) (cc (not-false operation (w .0 .left)))))
+          (λ w. rw (w .2, w .3) (ranked-constructor symbols (loop .f) here room (loop .inv .1) (w .1 .result)
+          (its-kind ∙ not-true operation (w .0 .taken)) (sort-there (a .book .now) (a .at .now) (loop .f) present (w .1 .ensures)) (omega (arith, w .1 .ok))))
+          (λ w. rw (w .1, w .2) (ranked-operation symbols (loop .f) here room (loop .inv .1) (its-kind ∙ not-false operation (w .0 .left))))
           (c .if1 .came),
     )
 

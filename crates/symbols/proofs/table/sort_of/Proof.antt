@@ -15,7 +15,7 @@ byte-requires c κs = search needs
 
 returns : tie.Need-returns
 unfolding symbolIn
-returns c = cc
+returns c = rw (c .byte .ensures, c .before .place-of .ensures .0)
 
 pub sort-of-spec : {M : Type 1} → statement M
 sort-of-spec = tie.close (tie.spec place-of-requires add-byte byte-requires returns)
