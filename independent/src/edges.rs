@@ -34,15 +34,15 @@ fn take<'a>(rest: &mut &'a [u8], count: usize) -> Option<&'a [u8]> {
     Some(front)
 }
 
-fn two(rest: &mut &[u8]) -> Option<usize> {
+pub fn two(rest: &mut &[u8]) -> Option<usize> {
     take(rest, 2).map(|bytes| bytes[0] as usize * 256 + bytes[1] as usize)
 }
 
-fn four(rest: &mut &[u8]) -> Option<u32> {
+pub fn four(rest: &mut &[u8]) -> Option<u32> {
     take(rest, 4).map(|bytes| u32::from_be_bytes(bytes.try_into().expect("four bytes")))
 }
 
-fn lengthy<'a>(rest: &mut &'a [u8]) -> Option<&'a [u8]> {
+pub fn lengthy<'a>(rest: &mut &'a [u8]) -> Option<&'a [u8]> {
     let length = two(rest)?;
     take(rest, length)
 }

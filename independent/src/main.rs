@@ -7,6 +7,7 @@ mod edges;
 mod encode;
 mod evaluator;
 mod expand;
+mod jobs;
 mod make;
 mod random;
 mod seen;
@@ -24,6 +25,7 @@ const DEFAULT_COUNT: u64 = 20_000;
 const USAGE: &str = "usage:
   independent expand                       standard input to standard output, as the program `expand`
   independent edges                        the same, as the program `edges`
+  independent jobs                         the same, as the program `jobs`
   independent make SEED NUMBER             one input of a seed, to standard output
   independent compare PROGRAM [--emulator CMD] [--seed S] [--count N] [--threads T] [--keep FILE]";
 
@@ -39,6 +41,11 @@ fn main() {
             let mut table = Vec::new();
             std::io::stdin().read_to_end(&mut table).expect("standard input");
             print!("{}", edges::edges(&table).expect("a whole table"));
+        }
+        Some("jobs") if words.len() == 1 => {
+            let mut table = Vec::new();
+            std::io::stdin().read_to_end(&mut table).expect("standard input");
+            print!("{}", jobs::jobs(&table).expect("a whole table"));
         }
         Some("make") if words.len() == 3 => {
             let made = make::make(number(&words[1]), number(&words[2]));

@@ -28,6 +28,9 @@ use Rattle.writer.specs.Write.{Outcome as Writing}
 use Rattle.writer.specs.InCode.{after as writtenAs}
 use Rattle.nodes.specs.declared.Row.{Row}
 use Rattle.machine.specs.Run.{Memory as LentMemory, Result, Outcome}
+use Rattle.figures.specs.declared.Figured.{Figured}
+use Rattle.figures.specs.Figures.{Outcome as Figures}
+use Rattle.figures.specs.InCode.{after as figuredAs}
 use Rattle.run.specs.declared.whole.Outcome.{Outcome as CodeOutcome}
 use Rattle.run.specs.declared.whole.Owned.{Owned}
 use Rattle.run.specs.Outcomes.{after}
@@ -109,6 +112,12 @@ one-written r r′ room room′ one other =
     let same = one-value one other in
     let back : Writing → Written = λ o. record { number = o .result .number; row = o .result .row; bytes = o .result .bytes } in
     (ap back same, ap (λ (o : Writing). o .room) same)
+
+-- what the index figures hand back, and the totals after it
+pub one-figured : {t : Figures} (r r′ : Figured) (row row′ : List ℕ) → figuredAs r row ≡ t → figuredAs r′ row′ ≡ t → (r ≡ r′) × (row ≡ row′)
+one-figured r r′ row row′ one other =
+    let same = one-value one other in
+    (ap (λ (o : Figures). record { number = o .number; place = o .place }) same, ap (λ (o : Figures). o .row) same)
 
 -- the code's result, back from the seven numbers that it means: it holds nothing else
 abbrev codeOf : Result → CodeOutcome

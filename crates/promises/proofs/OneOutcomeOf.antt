@@ -40,11 +40,12 @@ use Rattle.nodes.proofs.arrow_at as arrow-at
 use Rattle.nodes.proofs.follow
 use Rattle.nodes.proofs.put
 use Rattle.nodes.proofs.pull_up as pull-up
+use Rattle.figures.proofs.add_figures as add-figures
 use Rattle.run.proofs.run
 use Rattle.run.proofs.run_owned as run-owned
 use Rattle.promises.proofs.Contracts.{leftBy}
 use Rattle.promises.proofs.OneOutcome.{OneOutcome, OneResult, by-claim, one-value, one-bounded, one-set, one-row, one-reading}
-use Rattle.promises.proofs.OneOutcome.{one-symbol-part, one-index, one-written, one-run, one-owned}
+use Rattle.promises.proofs.OneOutcome.{one-symbol-part, one-index, one-written, one-figured, one-run, one-owned}
 
 -- crate `limits`
 pub all-open-one : OneResult all-open.ended (λ M. all-open.clauses)
@@ -163,6 +164,10 @@ put-one = by-claim put.ended (λ κs a z z′ e e′. one-value)
 
 pub pull-up-one : OneOutcome pull-up.ended (λ κs z z′ e e′. (z ≡ z′) × (now (e .0) ≡ now (e′ .0))) (λ M. pull-up.clauses)
 pull-up-one = by-claim pull-up.ended (λ κs a z z′ e e′ one other. (one-value (one .0) (other .0), one-value (one .1) (other .1)))
+
+-- crate `figures`
+pub add-figures-one : OneOutcome add-figures.ended (λ κs z z′ e e′. (z ≡ z′) × (now (e .1 .0) ≡ now (e′ .1 .0))) (λ M. add-figures.clauses)
+add-figures-one = by-claim add-figures.ended (λ κs a z z′ e e′. one-figured z z′ (now (e .1 .0)) (now (e′ .1 .0)))
 
 -- crate `run`
 pub run-one : OneOutcome run.ended (λ κs z z′ e e′. (z ≡ z′) × (leftBy κs e ≡ leftBy κs e′)) (λ M. run.clauses)

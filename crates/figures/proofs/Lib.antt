@@ -1,0 +1,12 @@
+pub mod Held
+pub mod RecordWays
+pub mod TallyWays
+pub mod Repeated
+pub mod BookWays
+pub mod Exactly
+pub mod Tallying
+pub mod Laying
+pub mod Counting
+pub mod Books
+pub mod Order
+pub mod Runs
