@@ -1,0 +1,15 @@
+pub mod Rows
+pub mod Asked
+pub mod Followed
+pub mod Stays
+pub mod Circles
+pub mod Laws
+pub mod AllEnd
+pub mod Turns
+pub mod Runs
+pub mod Reaches
+pub mod Misfits
+pub mod Judged
+pub mod Exactly
+pub mod OneSide
+pub mod LeftStates
