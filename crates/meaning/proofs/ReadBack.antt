@@ -19,7 +19,7 @@ pub two-back : (n : ℕ) → n / 256 * 256 + n % 256 ≡ n
 two-back n = omega arith
 
 -- numbers written are read
-numbers-back : (ns : List ℕ) → numbersIn (twoBytesEach ns) ≡ ns
+pub numbers-back : (ns : List ℕ) → numbersIn (twoBytesEach ns) ≡ ns
 unfolding numbersIn twoBytesEach twoBytes
 numbers-back [] = refl
 numbers-back (n ∷ ns) = ap₂ _∷_ (two-back n) (numbers-back ns)
@@ -70,7 +70,7 @@ all-back ds e =
 -- ---- records
 
 -- an answer is its numbers
-answer-back : (a : Answer) → length (a .decisions) ≡ mostChoices
+pub answer-back : (a : Answer) → length (a .decisions) ≡ mostChoices
     → answerOf (length (a .symbols) ∷ (a .symbols ++ decisionNumbers 0 (a .decisions))) ≡ a
 unfolding answerOf
 answer-back a e =

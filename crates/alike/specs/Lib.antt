@@ -1,0 +1,14 @@
+pub mod Shorten
+pub mod Walking
+pub mod Reuse
+pub mod Reach
+pub mod Asked
+pub mod RowRecords
+pub mod Turning
+pub mod Night
+pub mod LaterCases
+pub mod Alone
+pub mod EachQuestion
+pub mod AsWithRoom
+pub mod AsPlain
+pub mod Nights
