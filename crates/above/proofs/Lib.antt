@@ -1,0 +1,9 @@
+pub mod Book
+pub mod Given
+pub mod Fits
+pub mod Reached
+pub mod Reaching
+pub mod Standing
+pub mod ExprBack
+pub mod BookBack
+pub mod Promised

@@ -1,0 +1,1 @@
+// What the book of a listing can reach. Definitions and theorems only.

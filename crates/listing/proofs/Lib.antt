@@ -1,0 +1,13 @@
+pub mod Computes
+pub mod Cases
+pub mod Members
+pub mod Accepted
+pub mod Refused
+pub mod Pigeons
+pub mod Ways
+pub mod Levels
+pub mod Circle
+pub mod LineWays
+pub mod NameWays
+pub mod TagWays
+pub mod NumberWays

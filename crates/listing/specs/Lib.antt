@@ -1,0 +1,13 @@
+pub mod Lines
+pub mod Places
+pub mod InCode
+pub mod Listing
+pub mod Terms
+pub mod Laid
+pub mod Write
+pub mod Hops
+pub mod Levels
+pub mod Circle
+pub mod Told
+pub mod Saved
+pub mod Cases

@@ -1,0 +1,2 @@
+// Books from the tagged listing, and the circle named before the night.
+mod lines;

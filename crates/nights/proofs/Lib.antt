@@ -1,0 +1,9 @@
+pub mod Weights
+pub mod Paying
+pub mod Ends
+pub mod Costing
+pub mod Nests
+pub mod Finishing
+pub mod Circling
+pub mod First
+pub mod Nights

@@ -1,0 +1,1 @@
+// What the runs of a listing book cost. Definitions and theorems only.
