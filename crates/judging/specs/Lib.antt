@@ -1,0 +1,3 @@
+pub mod Marks
+pub mod Sorts
+pub mod Search
