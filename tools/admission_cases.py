@@ -107,7 +107,8 @@ case('1 left over in an item before the part\'s fault behind it', hx('01 0006 02
 
 # ---- 2: version
 case('2 version 0', b'\x00' + SMALL[1:], D, 2, 0)
-case('2 version 2', b'\x02' + SMALL[1:], D, 2, 0)
+case('0 version 2', b'\x02' + SMALL[1:], D, 0, 0)
+case('2 version 3', b'\x03' + SMALL[1:], D, 2, 0)
 
 # ---- 3: symbols
 case('3 no symbols: the part\'s length', hx('01 0000 0000'), D, 3, 1)
@@ -187,7 +188,8 @@ case('11 a variable without its byte', SMALL, hx('01 0002 00 00'), 11, 5)
 case('11 one byte of a symbol', SMALL, hx('01 0003 00 01 00'), 11, 6)
 case('11 left over in the rest', SMALL, hx('01 0003 00 03 07'), 11, 5)
 case('11 left over behind the rest', SMALL, hx('01 0002 00 03 07'), 11, 5)
-case('12 version 2', SMALL, b'\x02' + D[1:], 12, 0)
+case('0 a question of version 2', SMALL, b'\x02' + D[1:], 0, 0)
+case('12 version 3', SMALL, b'\x03' + D[1:], 12, 0)
 case('13 sort 64', SMALL, hx('01 0002 40 03'), 13, 3)
 case('14 unknown code', SMALL, hx('01 0002 00 04'), 14, 4)
 case('14 no variable is bound: its byte', SMALL, hx('01 0003 00 0000'), 14, 5)

@@ -10,7 +10,7 @@ use lib.Dec.{ltb}
 use lib.ListN.{length, getD, drop, replicate, length-append, length-replicate, length-map}
 use Rattle.limits.specs.Sizes.{mostBookBytes, mostSymbols, mostExpressionNodes, mostVariables}
 use Rattle.reading.specs.Reading.{got, _then_, refuse_at_if_else_}
-use Rattle.reading.specs.Bytes.{twoBytes}
+use Rattle.reading.specs.Bytes.{versionOf, twoBytes}
 use Rattle.symbols.specs.Symbols.{Symbol, Symbols}
 use Rattle.symbols.specs.SymbolPart.{sortsAt, symbolAt, symbolsAt, opened, symbolPart}
 use Rattle.expressions.specs.Expressions.{Expr}
@@ -24,8 +24,8 @@ use Rattle.listing.specs.Write.{nodesOf, someOver, passes}
 use Rattle.listing.specs.Hops.{In, first, later, broaderOf, Inside}
 use Rattle.sorts.specs.Sorts.{ExprFits}
 use Rattle.above.proofs.Standing.{goes-on, passes-test, one-at, behind, two-at, byte-reads, length-reads}
-use Rattle.above.proofs.ExprBack.{whole-reads}
-use Rattle.above.proofs.Fits.{nest-fits, first-fitting, second-fitting}
+use Rattle.above.proofs.ExprBack.{Readable, whole-reads}
+use Rattle.above.proofs.Fits.{nest-fits, nest-readable, first-fitting, second-fitting}
 
 -- ---- symbols
 
@@ -94,32 +94,32 @@ symbols-read bs (more {kind} {rest} s) (suc bound) e before p xs enough few ends
 
 module _ (bs : List ℕ) (S : Symbols) where
   -- a rule is read back
-  rule-reads : (sort e p : ℕ) (vars : List ℕ) (x : Expr) (xs : List ℕ) → ExprFits S vars x sort → nodesOf x ≤ mostExpressionNodes
+  rule-reads : (sort e p : ℕ) (vars : List ℕ) (x : Expr) (xs : List ℕ) → ExprFits S vars x sort → Readable (versionOf bs) vars x → nodesOf x ≤ mostExpressionNodes
       → p + length (treeLaid (Tree.rule x)) ≤ e → drop p bs ≡ treeLaid (Tree.rule x) ++ xs
       → treeIn bs S sort e (suc mostVariables) vars [] p ≡ got (Tree.rule x) (p + length (treeLaid (Tree.rule x)))
   unfolding treeIn treeCodeAt treeLaid
-  rule-reads sort e p vars x xs fits few inside stands =
+  rule-reads sort e p vars x xs fits able few inside stands =
       goes-on _ (byte-reads bs 0 e p 1 (exprLaid x ++ xs) (omega arith) stands)
-      ∙ goes-on _ (whole-reads bs 0 S e vars x sort (p + 1) xs fits few (omega arith) (one-at bs p 1 (exprLaid x ++ xs) stands .1))
+      ∙ goes-on _ (whole-reads bs 0 S e vars x sort (p + 1) xs fits able few (omega arith) (one-at bs p 1 (exprLaid x ++ xs) stands .1))
       ∙ ap (got (Tree.rule x)) (omega arith)
 
   -- with its length in front
-  item-reads : (x : Symbol) (e p : ℕ) (r : Expr) (xs : List ℕ) → ExprFits S (x .arguments) r (x .sort) → nodesOf r ≤ mostExpressionNodes
+  item-reads : (x : Symbol) (e p : ℕ) (r : Expr) (xs : List ℕ) → ExprFits S (x .arguments) r (x .sort) → Readable (versionOf bs) (x .arguments) r → nodesOf r ≤ mostExpressionNodes
       → p + length (lengthFirst (treeLaid (Tree.rule r))) ≤ e → drop p bs ≡ lengthFirst (treeLaid (Tree.rule r)) ++ xs
       → itemAt bs S e x p ≡ got (Tree.rule r) (p + length (lengthFirst (treeLaid (Tree.rule r))))
   unfolding itemAt lengthFirst twoBytes
-  item-reads x e p r xs fits few inside stands =
+  item-reads x e p r xs fits able few inside stands =
       let tree = treeLaid (Tree.rule r) in
       let two = two-at bs p (length tree) (tree ++ xs) stands in
       goes-on _ (length-reads bs 0 e p (length tree) (tree ++ xs) (omega arith) stands)
-      ∙ goes-on _ (rule-reads (x .sort) (p + 2 + length tree) (p + 2) (x .arguments) r xs fits few (omega arith) (two .1))
+      ∙ goes-on _ (rule-reads (x .sort) (p + 2 + length tree) (p + 2) (x .arguments) r xs fits able few (omega arith) (two .1))
       ∙ passes-test _ _ _ (le-ltb (p + 2 + length tree) (p + 2 + length tree) (omega arith))
       ∙ ap (got (Tree.rule r)) (omega arith)
 
 -- each of these rules fits sort 0, and has no more nodes than an expression may have
 data Sound (S : Symbols) : List Expr → Type 0 where
   none : Sound S []
-  more : {r : Expr} {rs : List Expr} → ExprFits S [] r 0 → nodesOf r ≤ mostExpressionNodes → Sound S rs → Sound S (r ∷ rs)
+  more : {r : Expr} {rs : List Expr} → ExprFits S [] r 0 → ((version : ℕ) → Readable version [] r) → nodesOf r ≤ mostExpressionNodes → Sound S rs → Sound S (r ∷ rs)
 
 -- the rules of operations
 rules-read : (bs : List ℕ) (S : Symbols) (e : ℕ) {rs : List Expr} → Sound S rs → (p : ℕ) (xs : List ℕ)
@@ -128,12 +128,12 @@ rules-read : (bs : List ℕ) (S : Symbols) (e : ℕ) {rs : List Expr} → Sound 
     → treesOf bs S e (replicate (length rs) operation) p ≡ got (rulesBefore rs Trees.noTrees) (p + length own)
 unfolding treesOf treesLaid rulesBefore
 rules-read bs S e none p xs inside stands = ap (got Trees.noTrees) (omega arith)
-rules-read bs S e (more {r} {rs} fits few s) p xs inside stands =
+rules-read bs S e (more {r} {rs} fits able few s) p xs inside stands =
     let own = lengthFirst (treeLaid (Tree.rule r)) in
     let others = treesLaid (replicate (length rs) operation) (rulesBefore rs Trees.noTrees) in
     let long = length-append own others in
     let bytes : drop p bs ≡ own ++ (others ++ xs) = stands ∙ append-assoc own others xs in
-    goes-on _ (item-reads bs S operation e p r (others ++ xs) fits few (omega arith) bytes)
+    goes-on _ (item-reads bs S operation e p r (others ++ xs) fits (able (versionOf bs)) few (omega arith) bytes)
     ∙ goes-on _ (rules-read bs S e s (p + length own) xs (omega arith) (behind bs p own (others ++ xs) bytes))
     ∙ ap (got (Trees.moreTrees (Tree.rule r) (rulesBefore rs Trees.noTrees))) (omega arith)
 
@@ -158,19 +158,19 @@ or-false false b is = (refl, is)
 -- each rule fits
 data Fit (S : Symbols) : List Expr → Type 0 where
   none : Fit S []
-  more : {r : Expr} {rs : List Expr} → ExprFits S [] r 0 → Fit S rs → Fit S (r ∷ rs)
+  more : {r : Expr} {rs : List Expr} → ExprFits S [] r 0 → ((version : ℕ) → Readable version [] r) → Fit S rs → Fit S (r ∷ rs)
 
 fit-append : {S : Symbols} {rs ts : List Expr} → Fit S rs → Fit S ts → Fit S (rs ++ ts)
 fit-append none g = g
-fit-append (more h f) g = more h (fit-append f g)
+fit-append (more h able f) g = more h able (fit-append f g)
 
 -- and none is over
 sound-of : {S : Symbols} {rs : List Expr} → Fit S rs → someOver rs ≡ false → Sound S rs
 unfolding someOver
 sound-of none is = none
-sound-of (more {r} {rs} fits f) is =
+sound-of (more {r} {rs} fits able f) is =
     let (small, others) = or-false (ltb mostExpressionNodes (nodesOf r)) (someOver rs) is in
-    more fits (ltb-false mostExpressionNodes (nodesOf r) small) (sound-of f others)
+    more fits able (ltb-false mostExpressionNodes (nodesOf r) small) (sound-of f others)
 
 module _ (broader : Broader) (inside : Inside broader) where
   abbrev n : ℕ
@@ -194,12 +194,16 @@ module _ (broader : Broader) (inside : Inside broader) where
   firsts-fit : (rest : Broader) → ((bs : List ℕ) → In bs rest → Low bs) → Fit S (firstRules rest)
   unfolding firstRules
   firsts-fit [] l = none
-  firsts-fit (bs ∷ rest) l = more (nest-fits (first-fitting broader inside bs (l bs first))) (firsts-fit rest (λ cs i. l cs (later i)))
+  firsts-fit (bs ∷ rest) l =
+      let fit = first-fitting broader inside bs (l bs first) in
+      more (nest-fits fit) (nest-readable fit) (firsts-fit rest (λ cs i. l cs (later i)))
 
   seconds-fit : (rest : Broader) → ((bs : List ℕ) → In bs rest → Low bs) → Fit S (secondRules n rest)
   unfolding secondRules
   seconds-fit [] l = none
-  seconds-fit (bs ∷ rest) l = more (nest-fits (second-fitting broader inside bs (l bs first))) (seconds-fit rest (λ cs i. l cs (later i)))
+  seconds-fit (bs ∷ rest) l =
+      let fit = second-fitting broader inside bs (l bs first) in
+      more (nest-fits fit) (nest-readable fit) (seconds-fit rest (λ cs i. l cs (later i)))
 
   abbrev rules : List Expr
   rules = firstRules broader ++ secondRules n broader
@@ -253,7 +257,7 @@ module _ (broader : Broader) (inside : Inside broader) where
     front =
         passes-test _ _ _ (le-ltb mostBookBytes (length bs) (sizes .2))
         ∙ goes-on _ (byte-reads bs 0 (length bs) 0 1 _ (omega (arith, how-long)) starts)
-        ∙ passes-test _ _ _ refl
+        ∙ passes-test _ _ _ refl ∙ passes-test _ _ _ refl
         ∙ goes-on _ (length-reads bs 0 (length bs) 1 (length sy) _ (omega (arith, how-long)) after-version)
         ∙ passes-test _ _ _ (ne-eqb 3 (3 + length sy) (λ is. omega (arith, plain-bytes plain-symbols, symbol-count, is)))
 

@@ -16,6 +16,7 @@ use Rattle.listing.specs.Hops.{In, first, later, broaderOf, Inside}
 use Rattle.sorts.specs.Sorts.{sortOf, argumentsOf, ExprFits, TreeFits, RulesFit}
 use Rattle.sorts.proofs.HeapsFit.{Sorted, loaded-fits}
 use Rattle.meaning.specs.Demand3.{question}
+use Rattle.above.proofs.ExprBack.{Readable}
 use Rattle.above.proofs.Book.{term-at, operation-at, first-rule, second-rule}
 
 -- ---- any row of applications
@@ -30,6 +31,13 @@ unfolding nested
 nest-fits no-items = tt
 nest-fits (one-more h no-items) = h
 nest-fits (one-more h (one-more k fit)) = (h, nest-fits (one-more k fit))
+
+-- it can be read in any edition
+pub nest-readable : {S : Symbols} {es : List Expr} → Fitting S es → (version : ℕ) → Readable version [] (nested es)
+unfolding nested Readable
+nest-readable no-items version = tt
+nest-readable (one-more h no-items) version = tt
+nest-readable (one-more h (one-more k fit)) version = (tt, nest-readable (one-more k fit) version)
 
 module _ (broader : Broader) (inside : Inside broader) where
   abbrev n : ℕ

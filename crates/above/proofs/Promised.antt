@@ -20,7 +20,7 @@ use Rattle.listing.proofs.Accepted.{accepted}
 use Rattle.listing.proofs.Refused.{number-is, numbered}
 use Rattle.above.specs.Promised.{asking, Promised}
 use Rattle.above.proofs.Standing.{goes-on, passes-test, byte-reads, length-reads}
-use Rattle.above.proofs.ExprBack.{whole-reads}
+use Rattle.above.proofs.ExprBack.{Readable, whole-reads}
 use Rattle.above.proofs.BookBack.{or-false, book-back}
 use Rattle.above.proofs.Fits.{symbol-fits}
 use Rattle.above.proofs.Reaching.{reached}
@@ -28,14 +28,14 @@ use Rattle.above.proofs.Reaching.{reached}
 -- any symbol can be asked for
 question-back : (broader : Broader) → Inside broader → (f : ℕ) → f < length broader + (length broader + length broader)
     → readQuestion (symbolsFor (length broader)) (asking f) ≡ got (Expr.apply f Exprs.noExprs) 7
-unfolding readQuestion questionOpened askedAt twoBytes exprLaid nodesOf
+unfolding readQuestion questionOpened askedAt twoBytes exprLaid nodesOf Readable
 question-back broader inside f low =
     let bs = asking f in
     let S = symbolsFor (length broader) in
     let x = Expr.apply f Exprs.noExprs in
-    goes-on _ (passes-test _ _ _ refl ∙ goes-on _ (byte-reads bs 10 7 0 1 _ (omega arith) refl) ∙ passes-test _ _ _ refl ∙ length-reads bs 10 7 1 4 _ (omega arith) refl)
+    goes-on _ (passes-test _ _ _ refl ∙ goes-on _ (byte-reads bs 10 7 0 1 _ (omega arith) refl) ∙ passes-test _ _ _ refl ∙ passes-test _ _ _ refl ∙ length-reads bs 10 7 1 4 _ (omega arith) refl)
     ∙ goes-on _ (byte-reads bs 10 7 3 0 _ (omega arith) refl) ∙ passes-test _ _ _ refl
-    ∙ goes-on _ (whole-reads bs 10 S 7 [] x 0 4 [] (symbol-fits broader inside f low) (omega arith) (omega arith) refl)
+    ∙ goes-on _ (whole-reads bs 10 S 7 [] x 0 4 [] (symbol-fits broader inside f low) tt (omega arith) (omega arith) refl)
     ∙ passes-test _ _ _ refl ∙ passes-test _ _ _ refl
 
 -- ---- the ways of the writer

@@ -65,6 +65,7 @@ module _ (B : Book) (f : ℕ) (operates : B .isConstructor f ≡ false) (v : Val
 -- so the values that it reaches are those that its node may have
 applied-reaches : (r : Rules) (f : ℕ) → bookOf r .isConstructor f ≡ false → Sorted r (question (applied f) .heap) → (v : Value)
     → Reachable r (applied f) v ↔ OperationGives (bookOf r) f [] (whole v)
+unfolding make
 applied-reaches r f operates sorted v =
     let adequate = question-adequacy (applied f) tt {v = v} (lawful r) sorted in
     (λ reaches. can-gives (bookOf r) f operates v (adequate .1 reaches), λ gives. adequate .0 (gives-can (bookOf r) f operates v gives))

@@ -1,17 +1,16 @@
 -- REQUEST L7, node for node: a run that shortens forwards leaves the plain machine's state but for forwards, which lead to the same nodes.
 use mathlib.Core.Bool.{Bool, true, false}
 use mathlib.Core.Path.{_≡_, refl, sym, ap, ap₂, subst, _∙_}
-use mathlib.Core.Logic.{_≢_}
+use mathlib.Core.Logic.{_⊎_, inl, inr, _≢_}
 use mathlib.Core.List.{List, [], _∷_, _++_, map, map-append, append-nil}
 use Prim.Native.Nat.{ℕ, zero, suc, _+_, _-_, _<_, _≤_}
-use native.Mathlib.Nat.{le-refl}
 use native.Mathlib.Omega.{arith}
 use lib.Dec.{ltb}
 use lib.ListN.{length, getD, set, length-map}
 use Rattle.limits.specs.Sizes.{mostChoices, mostDepth}
 use Rattle.limits.specs.declared.Side.{Side}
 use Rattle.limits.specs.declared.Side.the-variants.{Open, Left, Right}
-use Rattle.limits.specs.Decisions.{Decisions, allOpen}
+use Rattle.limits.specs.Decisions.{Decisions}
 use Rattle.limits.specs.Lent.{Entry as PlainEntry}
 use Rattle.expressions.specs.Expressions.{Expr}
 use Rattle.book.specs.Rules.{Book}
@@ -45,15 +44,14 @@ use Rattle.alike.specs.Turning as Later
 use Rattle.alike.specs.Turning.{State, Turned, withNodes}
 use Rattle.alike.specs.AsWithRoom.{plainly}
 use Rattle.alike.proofs.Pairs.{Both}
-use Rattle.alike.proofs.Alike.{Pairing, Arrows, still′, here, followed, same-symbols}
+use Rattle.alike.proofs.Alike.{Pairing, NodeAlike, Arrows, still′, here, followed, same-symbols}
 use Rattle.alike.specs.AsPlain.{Shortcut, plainEntry, Short, AsPlain}
 use Rattle.alike.proofs.Shortcuts.{unchanged, _further_, Harmless}
 use Rattle.alike.proofs.Walks.{SlotAlike, FoundAlike, Goes, walk-alike}
 use Rattle.alike.proofs.Made.{place-alike}
 use Rattle.alike.proofs.Ending.{no-loop}
-use Rattle.alike.proofs.Shorts.{Itself, Same, leads-inside, arrows-itself, alike-itself, found-same, short-grown}
+use Rattle.alike.proofs.Shorts.{Itself, Same, EndsAway, leads-inside, arrows-itself, alike-itself, found-same, short-grown}
 use Rattle.alike.proofs.Instance.{same-length, same-bytes}
-use Rattle.alike.proofs.Loading.{root-first}
 
 pub data ShortTurned (s : Plain.State) : Plain.Turned → Turned → Type 0 where
   whole : {t : Plain.State} {T : State} → Short t T → ShortTurned s (Plain.whole t) (Turned.whole T)
@@ -79,14 +77,27 @@ slots-arrows {h} {g} range short (Both.more {a = v} s rest) =
     go fail is lt = absurd (omega arith)
     go (forward m) is lt = absurd (omega arith)
 
--- a forward is put where a rule is one variable
-place-forward : (x : Expr) (env : List ℕ) (n k t : ℕ) → Scoped (length env) x → place x env n k .top ≡ forward t
-    → (z : ℕ) × (z < length env) × (getD env z 0 ≡ t)
-unfolding place
-place-forward (Expr.var z) env n k t s e = (z, s, (let w = e in cc))
-place-forward (Expr.apply f es) env n k t s e = absurd (let z : _≡_ {A = ℕ} 0 1 = cc in omega arith)
-place-forward (Expr.choice a b) env n k t s e = absurd (let z : _≡_ {A = ℕ} 0 1 = cc in omega arith)
-place-forward Expr.fail env n k t s e = absurd (let z : _≡_ {A = ℕ} 0 1 = cc in omega arith)
+-- a forward is alike forwards only
+forward-of : {A C : Pairing} {y y′ : Node} {t : ℕ} → NodeAlike A C y y′ → y ≡ forward t → (t′ : ℕ) × A t t′
+forward-of (NodeAlike.applies b) e = absurd (let z : _≡_ {A = ℕ} 0 1 = cc in omega arith)
+forward-of (NodeAlike.chooses c l r) e = absurd (let z : _≡_ {A = ℕ} 0 1 = cc in omega arith)
+forward-of NodeAlike.fails e = absurd (let z : _≡_ {A = ℕ} 0 1 = cc in omega arith)
+forward-of {A} (NodeAlike.forwards {m} {m′} a) e = (m′, subst (λ (q : ℕ). A q m′) (let w = e in cc) a)
+
+-- each with itself
+with-itself : {P : ℕ → Type 0} {Q : Pairing} → ((x : ℕ) → P x → Q x x) → {xs : List ℕ} → All P xs → Both Q xs xs
+with-itself f none = Both.none
+with-itself f (more p ps) = Both.more (f _ p) (with-itself f ps)
+
+-- a forward is put where the top is one variable: it is one that P holds of, or a node made
+place-forward : (P : ℕ → Type 0) (x : Expr) (env : List ℕ) (n k t : ℕ) → Scoped (length env) x → All P env → place x env n k .top ≡ forward t
+    → P t ⊎ (n ≤ t)
+place-forward P x env n k t scoped each top =
+    let p = place x env n k in
+    let up = place-choices env x n k .0 in
+    let placed = place-alike (λ a b. P a ⊎ (n ≤ a)) (λ a b. Unit {0}) n n (length (p .nodes)) (λ j lt. inr (omega arith)) k k (p .choices - k) (λ j lt. tt)
+    (with-itself (λ y q. inl q) each) x scoped n n k k 0 0 (omega arith) (omega arith) (omega arith) (omega arith) (omega arith) (omega arith) in
+    forward-of (placed .top) top .1
 
 -- no forwards are made besides
 any-pairs : (env : List ℕ) → Both (λ (a b : ℕ). Unit {0}) env env
@@ -98,7 +109,7 @@ place-still x env n k scoped j =
     let p = place x env n k in
     let up = place-choices env x n k .0 in
     let placed = place-alike (λ a b. Unit {0}) (λ a b. Unit {0}) n n (length (p .nodes)) (λ j lt. tt) k k (p .choices - k) (λ j lt. tt) (any-pairs env) x scoped
-    (le-refl _) (omega arith) in
+    n n k k 0 0 (omega arith) (omega arith) (omega arith) (omega arith) (omega arith) (omega arith) in
     all-anywhere fail j tt (placed .still)
 
 module _ {h g : Heap} (range : InRange h) (short : Shortcut h g) (m : ℕ) {f : ℕ} {xs : List ℕ} (is : at h m ≡ apply f xs) where
@@ -139,7 +150,7 @@ module _ {h g : Heap} (range : InRange h) (short : Shortcut h g) (m : ℕ) {f : 
       stills (suc (suc k)) = tt
 
   -- A REWRITE
-  rewritten-short : (p : Placed) → ((t : ℕ) → p .top ≡ forward t → (z : ℕ) × Leads h t z × NoForward (at h z) × (z ≢ m) × (z < length h))
+  rewritten-short : (p : Placed) → ((t : ℕ) → p .top ≡ forward t → EndsAway h m t ⊎ (length h ≤ t))
       → ((j : ℕ) → NoForward (getD (p .nodes) j fail)) → Shortcut (rewritten h m p) (rewritten g m p)
   unfolding rewritten
   rewritten-short p ends stills = short-grown range short m (p .top) (p .nodes) lt still-m ends stills
@@ -237,24 +248,27 @@ module _ (leaves : Following) (B : Book) (room : Rooms) {s : Plain.State} {S : S
         ends-after : Finite (rewritten (s .heap) m p₀) m
         ends-after = rewrite-finite m (s .choices) range is op ends steerable (q .3) (there (s .heap) m (apply≢fail is))
 
-        leads-away : (t : ℕ) → p₀ .top ≡ forward t
-            → (z : ℕ) × Leads (s .heap) t z × NoForward (at (s .heap) z) × (z ≢ m) × (z < length (s .heap))
+        leads-away : (t : ℕ) → p₀ .top ≡ forward t → EndsAway (s .heap) m t ⊎ (length (s .heap) ≤ t)
         leads-away t top =
-            let (z, lt, at-z) = place-forward x env (length (s .heap)) (s .choices) t scoped′ top in
-            let (ends-t, lt-t) = subst (λ (k : ℕ). Finite (s .heap) k × (k < length (s .heap))) at-z (all-at 0 z (slots-arrows range (sh .heaps) slots .1) lt) in
-            let l = follow-leads (s .heap) t in (
-              follow (s .heap) t,
-              l,
-              follow-ends ends-t,
-              (λ same. away t top (subst (λ (k : ℕ). Leads (s .heap) t k) same l)),
-              leads-inside range (sh .heaps) l lt-t,
-            )
+            go (place-forward (λ (y : ℕ). Finite (s .heap) y × (y < length (s .heap))) x env (length (s .heap)) (s .choices) t scoped′ (slots-arrows range (sh .heaps) slots .1) top)
           where
             away : (t : ℕ) → p₀ .top ≡ forward t → ¬ Leads (s .heap) t m
             away t top = no-loop (s .heap) m t (p₀ .top) (p₀ .nodes) (q .2) (q .1) (unfolded ends-after) top
               where
                 unfolded : Finite (rewritten (s .heap) m p₀) m → Finite (grown (s .heap) m (p₀ .top) (p₀ .nodes)) m
                 unfolded e = e
+
+            go : (Finite (s .heap) t × (t < length (s .heap))) ⊎ (length (s .heap) ≤ t) → EndsAway (s .heap) m t ⊎ (length (s .heap) ≤ t)
+            go (inl (ends-t, lt-t)) =
+                let l = follow-leads (s .heap) t in
+                inl (
+                  follow (s .heap) t,
+                  l,
+                  follow-ends ends-t,
+                  (λ same. away t top (subst (λ (k : ℕ). Leads (s .heap) t k) same l)),
+                  leads-inside range (sh .heaps) l lt-t,
+                )
+            go (inr le) = inr le
 
 -- the same state with other forwards
 short-on : {s : Plain.State} {S : State} {g : Heap} → Short s S → Shortcut (S .heap) g → Short s (withNodes S g)
@@ -376,7 +390,7 @@ as-plain leaves harmless B P law x closed few lawful room fuel =
     runs-short leaves harmless B P law (Had B P x closed few lawful) room fuel (Plain.loaded x) (Later.loaded (x ∷ [])) (record {
       heaps = unchanged;
       choices = refl;
-      waiting = ap (λ (r : ℕ). record { root = r; decisions = allOpen } ∷ []) (root-first x closed);
+      waiting = refl;
       answers = refl;
       turns = refl;
     }) (loaded-good B P x closed few lawful)

@@ -3,9 +3,8 @@ use mathlib.Core.Path.{_≡_, refl, sym, ap, subst, _∙_}
 use mathlib.Core.Logic.{_⊎_, inl, inr}
 use mathlib.Core.List.{List, [], _∷_, append-nil}
 use Prim.Native.Nat.{ℕ, suc, _+_, _<_, _≤_}
-use native.Mathlib.Nat.{le-refl}
 use native.Mathlib.Omega.{arith}
-use lib.ListN.{length, getD, set, length-set}
+use lib.ListN.{length, set, length-set}
 use Rattle.expressions.specs.Expressions.{Expr}
 use Rattle.nodes.specs.Nodes.{Node, apply, choice, fail, forward, Heap, at}
 use Rattle.nodes.specs.Steps.{failed, withArrow, pulled}
@@ -15,7 +14,7 @@ use Rattle.rewriting.specs.Rewriting.{Leads}
 use Rattle.rewriting.proofs.Heaps.{grown, grown-length}
 use Rattle.rewriting.proofs.Lists.{All}
 use Rattle.meaning.proofs.Follows.{NoForward}
-use Rattle.alike.proofs.Pairs.{Both, none, more, both-at, both-map, both-set, both-length}
+use Rattle.alike.proofs.Pairs.{Both, none, more, both-map, both-set, both-length}
 use Rattle.alike.proofs.Alike.{Pairing, NodeAlike, node-map, Arrows, Alike}
 use Rattle.alike.proofs.Grown.{Grows, old, new, top, Tops, arrows-grown, arrows-new, alike-grown}
 use Rattle.alike.proofs.Made.{PlacedAlike, place-alike}
@@ -50,7 +49,7 @@ module _ {N C : Pairing} {h h′ : Heap} (alike : Alike N C h h′) {n n′ : �
   pub failed-alike : Deed N C (Grows N h h′ n n′ fail 0) C h h′ (failed h n) (failed h′ n′)
   unfolding failed
   failed-alike =
-      let tops : Tops N h h′ n fail fail = Tops.fresh tt in
+      let tops : Tops N h h′ n 0 fail fail = Tops.fresh tt in
       record {
         alike = rw (append-nil (set h n fail), append-nil (set h′ n′ fail)) at
             (alike-grown alike p [] [] tops C (λ i i′ c. c) (λ u. NodeAlike.fails) none All.none);
@@ -115,7 +114,7 @@ module _ {N C : Pairing} {h h′ : Heap} (alike : Alike N C h h′) {n n′ : �
       ys′ : List Node
       ys′ = withArrow (at h′ n′) j l′ ∷ withArrow (at h′ n′) j r′ ∷ []
 
-      tops : Tops N h h′ n x x′
+      tops : Tops N h h′ n 2 x x′
       tops = Tops.fresh tt
 
       A₁ : Pairing
@@ -154,27 +153,32 @@ module _ {N C : Pairing} {h h′ : Heap} (alike : Alike N C h h′) {n n′ : �
     abbrev g′ : Heap
     g′ = grown h′ n′ (m₁′ .top) (m₁′ .nodes)
 
+    -- the arrows before the deed: they lead to a pair, or to nodes that are to be added, one beside the other
+    abbrev Early : Pairing
+    Early y y′ = Arrows h h′ N y y′ ⊎ ((j : ℕ) × (j < length (m₁ .nodes)) × (y ≡ length h + j) × (y′ ≡ length h′ + j))
+
+    tops-of : {y y′ : Node} → NodeAlike Early C₁ y y′ → m₁ .top ≡ y → Tops N h h′ n (length (m₁ .nodes)) y y′
+    tops-of (NodeAlike.applies b) is = Tops.fresh tt
+    tops-of (NodeAlike.chooses c l r) is = Tops.fresh tt
+    tops-of NodeAlike.fails is = Tops.fresh tt
+    tops-of (NodeAlike.forwards {m} (inl a)) is = Tops.leads a (no-loop m is)
+    tops-of (NodeAlike.forwards (inr (j, lt, e, e′))) is = Tops.added j lt e e′
+
     -- what takes the places
-    place-tops : Tops N h h′ n (m₁ .top) (m₁′ .top)
-    unfolding place
-    place-tops = by x scoped no-loop
-      where
-        by : (e : Expr) → Scoped (length env) e → ((y : ℕ) → place e env (length h) k .top ≡ forward y → ¬ Leads h y n)
-            → Tops N h h′ n (place e env (length h) k .top) (place e env′ (length h′) k′ .top)
-        by (Expr.var z) s l = Tops.leads (both-at 0 0 z vars s) (l (getD env z 0) refl)
-        by (Expr.apply f es) s l = Tops.fresh tt
-        by (Expr.choice a b) s l = Tops.fresh tt
-        by Expr.fail s l = Tops.fresh tt
+    place-tops : Tops N h h′ n (length (m₁ .nodes)) (m₁ .top) (m₁′ .top)
+    place-tops =
+        tops-of (place-alike Early C₁ (length h) (length h′) (length (m₁ .nodes)) (λ j lt. inr (j, lt, refl, refl)) k k′ many numbers
+        (both-map (λ y y′ a. inl a) vars) x scoped (length h) (length h′) k k′ 0 0 (omega arith) (omega arith) (omega arith) (omega arith) (omega arith) few .top) refl
 
     -- arrows lead on to pairs
     on : (y y′ : ℕ) → Arrows h h′ N y y′ → Arrows g g′ N₁ y y′
     on y y′ a = arrows-grown alike p (m₁ .nodes) (m₁′ .nodes) place-tops a
 
     placed : PlacedAlike (Arrows g g′ N₁) C₁ (length h) (length h′) (length (m₁ .nodes))
-        (λ j lt. arrows-new alike p (m₁ .nodes) (m₁′ .nodes) place-tops j lt) k k′ many numbers (both-map on vars) m₁ m₁′
+        (λ j lt. arrows-new alike p (m₁ .nodes) (m₁′ .nodes) place-tops j lt) k k′ many numbers m₁ m₁′
     placed =
         place-alike (Arrows g g′ N₁) C₁ (length h) (length h′) (length (m₁ .nodes)) (λ j lt. arrows-new alike p (m₁ .nodes) (m₁′ .nodes) place-tops j lt)
-        k k′ many numbers (both-map on vars) x scoped (le-refl _) few
+        k k′ many numbers (both-map on vars) x scoped (length h) (length h′) k k′ 0 0 (omega arith) (omega arith) (omega arith) (omega arith) (omega arith) few
 
     pub rewritten-alike : Deed N C N₁ C₁ h h′ (rewritten h n m₁) (rewritten h′ n′ m₁′)
     unfolding rewritten

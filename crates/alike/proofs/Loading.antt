@@ -1,5 +1,5 @@
 -- A ROW OF QUESTIONS, loaded: what is there of each is alike that question loaded alone.
-use mathlib.Core.Path.{_≡_, refl, sym, ap, subst, _∙_}
+use mathlib.Core.Path.{_≡_, refl, sym, ap, _∙_}
 use mathlib.Core.Logic.{_≢_, inl, inr}
 use mathlib.Core.List.{List, [], _∷_, _++_, append-nil}
 use Prim.Native.Nat.{ℕ, zero, suc, _+_, _<_, _≤_}
@@ -28,6 +28,7 @@ use Rattle.meaning.proofs.Turns.{Good, Holds, sides}
 use Rattle.meaning.proofs.Members.{Pairwise}
 use Rattle.meaning.proofs.Entries.{canBe-fail}
 use Rattle.meaning.proofs.AllTurns.{open-at, loaded-good}
+use Rattle.limits.specs.Lent.{Entry as PlainEntry}
 use Rattle.alike.specs.Asked.{Entry}
 use Rattle.alike.specs.Turning as Later
 use Rattle.alike.specs.Turning.{State}
@@ -71,14 +72,6 @@ all-open cs = record {
   open-others = λ i′ n. open-at mostChoices i′;
 }
 
--- a question's root is its first node
-pub root-first : (x : Expr) → Scoped 0 x → make x [] 0 0 .arrow ≡ 0
-unfolding make
-root-first (Expr.var y) s = absurd (not-suc-le-zero s)
-root-first (Expr.apply f es) s = refl
-root-first (Expr.choice a b) s = refl
-root-first Expr.fail s = refl
-
 module _ (q : ℕ) (x : Expr) (closed : Scoped 0 x) (H : Heap) (k : ℕ) where
   abbrev h : Heap
   h = make x [] 0 0 .nodes
@@ -102,7 +95,7 @@ module _ (q : ℕ) (x : Expr) (closed : Scoped 0 x) (H : Heap) (k : ℕ) where
   fresh : (j : ℕ) → j < length h → A₁ (0 + j) (length H + j)
   fresh j lt = record { node = 0 + j; node′ = length H + j; leads = Leads.here; leads′ = Leads.here; same = (omega arith, omega arith) }
 
-  made : MadeAlike A₁ (Numbered cs) 0 (length H) (length h) fresh 0 k many (λ j lt. numbered-new k many [] j lt) Both.none
+  made : MadeAlike A₁ (Numbered cs) 0 (length H) (length h) fresh 0 k many (λ j lt. numbered-new k many [] j lt)
       (make x [] 0 0) (make x [] (length H) k)
   made = make-alike A₁ (Numbered cs) 0 (length H) (length h) fresh 0 k many (λ j lt. numbered-new k many [] j lt) Both.none x closed
       0 (length H) 0 k 0 0 (omega arith) (omega arith) (omega arith) (omega arith) (omega arith) (omega arith)
@@ -131,7 +124,7 @@ module _ (q : ℕ) (x : Expr) (closed : Scoped 0 x) (H : Heap) (k : ℕ) where
   follows-new waiting none-yet = record {
     heaps = alike-new;
     waiting = among-append none-yet (Among.mine refl
-        (record { roots = subst (λ r. A₁ r (make x [] (length H) k .arrow)) (root-first x closed) (made .arrow); decisions = all-open cs }) Among.none);
+        (record { roots = made .arrow; decisions = all-open cs }) Among.none);
     answers = Among.none;
     numbered = numberedOn-length k many [] ∙ omega arith;
     rising = numberedOn-rising k many [] (λ i lt. absurd (not-suc-le-zero lt)) (λ i j lt lt′. absurd (not-suc-le-zero lt′));
@@ -173,10 +166,14 @@ none-among : {A : Type 0} {R : A → Entry → Type 0} {q : ℕ} {es : List Entr
 none-among none = Among.none
 none-among (more n ns) = Among.other n (none-among ns)
 
+-- the node that the front entry waits on
+abbrev rootIn : List PlainEntry → ℕ
+rootIn es = elim es [ [] ↦ 0 | e ∷ rest ↦ e .root ]
+
 module _ (B : Book) (P : Heap → Type 0) (empty : P []) where
   -- the values that a loaded question can have
   abbrev pub Had : Plain.State → Value → Type 0
-  Had s v = CanBe B (s .heap) (sides allOpen) 0 v
+  Had s v = CanBe B (s .heap) (sides allOpen) (rootIn (s .waiting)) v
 
   -- a question that can be loaded
   pub record Fine (x : Expr) : Type 0 where

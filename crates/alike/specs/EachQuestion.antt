@@ -8,7 +8,7 @@ use lib.ListN.{length, getD}
 use Rattle.expressions.specs.Expressions.{Expr}
 use Rattle.book.specs.Rules.{Book}
 use Rattle.rewriting.specs.Rewriting.{Value, Reaches}
-use Rattle.meaning.specs.Demand3.{flatten, question, Apart}
+use Rattle.meaning.specs.Demand3.{flatten, question, rootOf, Apart}
 use Rattle.alike.specs.Asked.{Answer}
 use Rattle.alike.specs.Turning as Later
 use Rattle.alike.specs.Alone.{answersTo}
@@ -19,8 +19,8 @@ answerAt answers i = getD answers i (record { question = 0; symbols = []; decisi
 
 pub record EachQuestion (B : Book) (x : Expr) (q : ℕ) (r : Later.Ended) : Type 0 where
   pub sound : (i : ℕ) → i < length (answersTo q (r .state .answers))
-      → (v : Value) × (answerAt (answersTo q (r .state .answers)) i .symbols ≡ flatten v) × Reaches B (question x) 0 v
-  pub complete : r .number ≡ 0 → (v : Value) → Reaches B (question x) 0 v
+      → (v : Value) × (answerAt (answersTo q (r .state .answers)) i .symbols ≡ flatten v) × Reaches B (question x) (rootOf x) v
+  pub complete : r .number ≡ 0 → (v : Value) → Reaches B (question x) (rootOf x) v
       → (i : ℕ) × (i < length (answersTo q (r .state .answers))) × (answerAt (answersTo q (r .state .answers)) i .symbols ≡ flatten v)
   pub apart : (i j : ℕ) → i ≢ j → i < length (answersTo q (r .state .answers)) → j < length (answersTo q (r .state .answers))
       → Apart (answerAt (answersTo q (r .state .answers)) i .decisions) (answerAt (answersTo q (r .state .answers)) j .decisions)

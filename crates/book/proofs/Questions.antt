@@ -1,5 +1,4 @@
 -- Reading a question, one lemma for each way through the code.
-use mathlib.Core.Bool.{not}
 use mathlib.Core.List.{List, []}
 use mathlib.Core.Path.{_≡_, sym, ap, _∙_}
 use Prim.Native.Nat.{ℕ, _≤_, _<_}
@@ -36,7 +35,7 @@ module _ (bs : List ℕ) where
   module _ (fits : length bs ≤ mostQuestionBytes) where
     -- what comes behind the version byte
     abbrev behind-version : ℕ → ℕ → Reading ℕ
-    behind-version version p = refuse_at_if_else_ 12 0 (not (eqb version 1)) λ _. lengthAt bs 10 (length bs) p
+    behind-version version p = refuse_at_if_else_ 12 0 (eqb version 0) λ _. refuse_at_if_else_ 12 0 (ltb 2 version) λ _. lengthAt bs 10 (length bs) p
 
     -- reading goes on with the version byte
     short-enough : questionOpened bs ≡ _then_ (byteAt bs 10 (length bs) 0) behind-version
@@ -48,18 +47,24 @@ module _ (bs : List ℕ) where
     opened-empty r = sym (short-enough ∙ then-refusal behind-version (sym r))
 
     module _ {version p : ℕ} (found : got version p ≡ byteAt bs 10 (length bs) 0) where
-      -- it is of another version
-      pub opened-other : (version ≡ 1 → ⊥) → refusal 12 0 ≡ questionOpened bs
-      opened-other other = sym (short-enough ∙ then-got behind-version (sym found) ∙ failed-test _ _ _ (ap not (ne-eqb version 1 other)))
+      -- it is of version 0
+      pub opened-zero : version ≡ 0 → refusal 12 0 ≡ questionOpened bs
+      opened-zero none = sym (short-enough ∙ then-got behind-version (sym found) ∙ failed-test _ _ _ (eq-eqb version 0 none))
 
-      -- it is of version 1: the answer is that of its length
-      pub opened-length : {r : Reading ℕ} → version ≡ 1 → r ≡ lengthAt bs 10 (length bs) p → r ≡ questionOpened bs
-      opened-length first r = r ∙ sym (short-enough ∙ then-got behind-version (sym found) ∙ passed _ _ (ap not (eq-eqb version 1 first)))
+      module _ (some : version ≡ 0 → ⊥) where
+        -- or one above 2
+        pub opened-above : 2 < version → refusal 12 0 ≡ questionOpened bs
+        opened-above above = sym (short-enough ∙ then-got behind-version (sym found) ∙ passed _ _ (ne-eqb version 0 some) ∙ failed-test _ _ _ (lt-ltb 2 version above))
+
+        -- it is of version 1 or 2: the answer is that of its length
+        pub opened-length : {r : Reading ℕ} → version ≤ 2 → r ≡ lengthAt bs 10 (length bs) p → r ≡ questionOpened bs
+        opened-length edition r =
+            r ∙ sym (short-enough ∙ then-got behind-version (sym found) ∙ passed _ _ (ne-eqb version 0 some) ∙ passed _ _ (le-ltb 2 version edition))
 
   -- the sort byte stands at place 3, and the end that the length gives lies in the question
   opened-good : Good (λ e p. (p ≡ 3) × (p ≤ e) × (e ≤ length bs)) (questionOpened bs)
   unfolding questionOpened
-  opened-good = unless _ _ _ λ _ _. then-good (byte-good bs 10 (length bs) 0) λ version p there. unless _ _ _ λ _ _.
+  opened-good = unless _ _ _ λ _ _. then-good (byte-good bs 10 (length bs) 0) λ version p there. unless _ _ _ λ _ _. unless _ _ _ λ _ _.
       rw (there .1) (length-good bs 10 (length bs) 1)
 
 -- ---- sort and expression

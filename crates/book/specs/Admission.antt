@@ -1,5 +1,5 @@
 -- Admission: what a book or a question means, or the first fault met.
-use mathlib.Core.Bool.{Bool, not}
+use mathlib.Core.Bool.{Bool}
 use mathlib.Core.List.{List, []}
 use Prim.Native.Nat.{ℕ}
 use lib.Dec.{ltb, eqb}
@@ -14,21 +14,22 @@ use Rattle.expressions.specs.ExpressionAt.{wholeExprAt}
 use Rattle.book.specs.TreeAt.{treePart}
 use Rattle.book.specs.Rules.{Rules}
 
--- "A book is a version byte 1, the symbol part, the tree part."
+-- "A book is a version byte .., the symbol part, the tree part." What its version allows is judged where it stands.
 unfoldable pub readBook : List ℕ → Reading Rules
 readBook bs =
     symbolPart bs then λ symbols p.
     treePart bs symbols p then λ trees q.
     got (record { symbols = symbols; trees = trees }) q
 
--- "A question is a version byte 1, a two-byte length, a sort byte, one expression": the end of what the length counts, and the place
--- of the sort byte
+-- "A question is a version byte .., a two-byte length, a sort byte, one expression": the end of what the length counts, and the place
+-- of the sort byte. "2 and 12 now mean neither 1 nor 2"
 unfoldable pub questionOpened : List ℕ → Reading ℕ
 questionOpened bs =
     let size = length bs in
     refuse 11 at 0 if ltb mostQuestionBytes size else λ _.
     byteAt bs 10 size 0 then λ version p.
-    refuse 12 at 0 if not (eqb version 1) else λ _.
+    refuse 12 at 0 if eqb version 0 else λ _.
+    refuse 12 at 0 if ltb 2 version else λ _.
     lengthAt bs 10 size p
 
 -- "one expression of that sort with no variables bound", behind the sort byte at p. "13 is given only for its sort byte above 63"

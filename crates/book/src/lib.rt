@@ -122,7 +122,13 @@ fn open_question(question: &[u8]) -> Reading
             value: version,
             next,
         } => {
-            if version != 1 {
+            if version == 0 {
+                return Reading::Refusal {
+                    number: 12,
+                    place: 0,
+                };
+            }
+            if 2 < version {
                 return Reading::Refusal {
                     number: 12,
                     place: 0,

@@ -1,14 +1,14 @@
 -- An expression that was read takes the bytes that it takes, within its part or item, and the allowance does not grow.
-use mathlib.Core.List.{List, [], _∷_}
+use mathlib.Core.List.{List, [], _∷_, _++_}
 use mathlib.Core.Path.{_≡_, refl}
-use Prim.Native.Nat.{ℕ, zero, suc, _+_, _≤_, _<_}
+use Prim.Native.Nat.{ℕ, zero, suc, _+_, _-_, _≤_, _<_}
 use native.Mathlib.Omega.{arith}
 use Rattle.limits.specs.Sizes.{mostExpressionNodes}
 use Rattle.reading.specs.Reading.{Reading}
 use Rattle.reading.proofs.Good.{Good, good, refused, then-good, unless, byte-good, number-good}
 use Rattle.symbols.specs.Symbols.{Symbols, symbolOf}
 use Rattle.expressions.specs.Expressions.{Expr, Exprs, exprBytes, rowBytes}
-use Rattle.expressions.specs.ExpressionAt.{Left, leaving, ExprReader, nodeAt, variableAt, rowWith, choiceAt, appliedAt, applyAt, codeAt, exprAt, wholeAt}
+use Rattle.expressions.specs.ExpressionAt.{Left, leaving, ExprReader, nodeAt, variableAt, rowWith, choiceAt, appliedAt, applyAt, sharedAt, codeAt, exprAt, wholeAt}
 
 -- what was read from p on, with `left` nodes left: so many bytes, up to e at most, and no more nodes left
 pub record Extent {A : Type 0} (bytes : A → ℕ) (e left p : ℕ) (x : Left A) (q : ℕ) : Type 0 where
@@ -49,6 +49,15 @@ module _ (bs : List ℕ) (base : ℕ) (S : Symbols) (e : ℕ) where
       then-good (reads s (a .left) q) λ b t second.
       good (record { fewer = omega (arith, first .fewer, second .fewer); size = omega (arith, first .size, second .size); within = second .within })
 
+  -- a shared part, and the body behind it
+  shared-extent : (expr : List ℕ → ExprReader) → ((vars : List ℕ) → Extents (expr vars)) → (vars : List ℕ) → Extents (sharedAt bs base S e expr vars)
+  unfolding sharedAt exprBytes
+  shared-extent expr reads vars s left p =
+      unless _ _ _ λ _ _. unless _ _ _ λ _ _. then-good (byte-good bs base e (p + 1)) λ x q is. unless _ _ _ λ _ _.
+      then-good (reads vars x left q) λ a r first.
+      then-good (reads (vars ++ (x ∷ [])) s (a .left) r) λ b t second.
+      good (record { fewer = omega (arith, first .fewer, second .fewer); size = omega (arith, is .1, first .size, second .size); within = second .within })
+
   -- one node less left
   node-extent : (left p : ℕ) {more : ℕ → Reading (Left Expr)} → ((l : ℕ) → Good (Extent exprBytes e l p) (more l)) → Good (Extent exprBytes e left p) (nodeAt base left p more)
   unfolding nodeAt
@@ -59,20 +68,21 @@ module _ (bs : List ℕ) (base : ℕ) (S : Symbols) (e : ℕ) where
       weaker (good {a = x} {p = q} is) = good {a = x} (record { fewer = omega (arith, is .fewer); size = is .size; within = is .within })
       weaker refused = refused
 
-  code-extent : (expr : ExprReader) → Extents expr → (vars : List ℕ) (c s left p : ℕ) → p < e → Good (Extent exprBytes e left p) (codeAt bs base S e expr vars c s left p)
+  code-extent : (expr : List ℕ → ExprReader) → ((vars : List ℕ) → Extents (expr vars)) → (vars : List ℕ) (c s left p : ℕ) → p < e → Good (Extent exprBytes e left p) (codeAt bs base S e expr vars c s left p)
   unfolding codeAt exprBytes
   code-extent expr reads vars zero s left p h = variable-extent vars s left p
-  code-extent expr reads vars (suc zero) s left p h = node-extent left p λ l. apply-extent expr reads s l p
-  code-extent expr reads vars (suc (suc zero)) s left p h = node-extent left p λ l. choice-extent expr reads s l p
+  code-extent expr reads vars (suc zero) s left p h = node-extent left p λ l. apply-extent (expr vars) (reads vars) s l p
+  code-extent expr reads vars (suc (suc zero)) s left p h = node-extent left p λ l. choice-extent (expr vars) (reads vars) s l p
   code-extent expr reads vars (suc (suc (suc zero))) s left p h = node-extent left p λ l. good (record { fewer = omega arith; size = refl; within = omega arith })
-  code-extent expr reads vars (suc (suc (suc (suc c)))) s left p h = refused
+  code-extent expr reads vars (suc (suc (suc (suc zero)))) s left p h = shared-extent expr reads vars s left p
+  code-extent expr reads vars (suc (suc (suc (suc (suc c))))) s left p h = refused
 
   pub expr-extent : (depth : ℕ) (vars : List ℕ) → Extents (exprAt bs base S e depth vars)
   unfolding exprAt
   expr-extent zero vars s left p = refused
   expr-extent (suc depth) vars s left p =
-      then-good (byte-good bs base e p) λ c q is. code-extent (exprAt bs base S e depth vars) (expr-extent depth vars) vars c s left p (omega (arith, is .1, is .2))
+      then-good (byte-good bs base e p) λ c q is. code-extent (exprAt bs base S e depth) (expr-extent depth) vars c s left p (omega (arith, is .1, is .2))
 
   pub whole-extent : (vars : List ℕ) (s p : ℕ) → Good (Extent exprBytes e mostExpressionNodes p) (wholeAt bs base S e vars s p)
   unfolding wholeAt
-  whole-extent vars s p = expr-extent (suc mostExpressionNodes) vars s mostExpressionNodes p
+  whole-extent vars s p = expr-extent (e - p) vars s mostExpressionNodes p

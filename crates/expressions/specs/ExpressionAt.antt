@@ -1,13 +1,13 @@
 -- Reading an expression of the sort asked for. "At an expression: code, node count, its symbol or variable byte, sort, then its
 -- arguments or sides."
 use mathlib.Core.Bool.{Bool, true, false, not}
-use mathlib.Core.List.{List, [], _∷_}
-use Prim.Native.Nat.{ℕ, zero, suc, _+_}
-use lib.Dec.{leb, eqb}
+use mathlib.Core.List.{List, [], _∷_, _++_}
+use Prim.Native.Nat.{ℕ, zero, suc, _+_, _-_}
+use lib.Dec.{leb, ltb, eqb}
 use lib.ListN.{length, getD}
-use Rattle.limits.specs.Sizes.{mostExpressionNodes}
+use Rattle.limits.specs.Sizes.{mostExpressionNodes, mostVariables, lastSort}
 use Rattle.reading.specs.Reading.{Reading, got, refusal, _then_, refuse_at_if_else_}
-use Rattle.reading.specs.Bytes.{byteAt, numberAt}
+use Rattle.reading.specs.Bytes.{versionOf, byteAt, numberAt}
 use Rattle.symbols.specs.Symbols.{Symbols, symbolOf}
 use Rattle.expressions.specs.Expressions.{Expr, Exprs, noExprs, moreExprs}
 
@@ -71,24 +71,39 @@ module _ (bs : List ℕ) (base : ℕ) (symbols : Symbols) (e : ℕ) where
       rowWith expr (symbolOf symbols f .arguments) left q then λ r t.
       got (leaving (r .left) (Expr.apply f (r .what))) t
 
-  -- by the code that stands at p; "unknown code (place: its first byte)"
-  unfoldable pub codeAt : ExprReader → List ℕ → ℕ → ExprReader
-  codeAt expr vars zero sort left p = variableAt bs base e vars sort left p
-  codeAt expr vars (suc zero) sort left p = nodeAt base left p (λ l. applyAt expr sort l p)
-  codeAt expr vars (suc (suc zero)) sort left p = nodeAt base left p (λ l. choiceAt expr sort l p)
-  codeAt expr vars (suc (suc (suc zero))) sort left p = nodeAt base left p (λ l. got (leaving l Expr.fail) (p + 1))
-  codeAt expr vars (suc (suc (suc (suc c)))) sort left p = refusal (base + 4) p
+  -- "Version byte 2 allows expression code 4: a sort byte, an expression of that sort, then the body, in which the first takes the
+  -- next free variable number, there only". "code 4 in version 1 stays 4 or 14"; "a 33rd variable is 4 or 14 at its code"; "its sort
+  -- byte above 63 is 3 or 13". It is no node itself.
+  unfoldable pub sharedAt : (List ℕ → ExprReader) → List ℕ → ExprReader
+  sharedAt expr vars sort left p =
+      refuse base + 4 at p if not (eqb (versionOf bs) 2) else λ _.
+      refuse base + 4 at p if leb mostVariables (length vars) else λ _.
+      byteAt bs base e (p + 1) then λ s q.
+      refuse base + 3 at p + 1 if ltb lastSort s else λ _.
+      expr vars s left q then λ a r.
+      expr (vars ++ (s ∷ [])) sort (a .left) r then λ b t.
+      got (leaving (b .left) (Expr.shared s (a .what) (b .what))) t
 
-  -- The first number bounds how deep expressions stand in expressions: no deeper than there are nodes left, and one for a variable.
+  -- by the code that stands at p; "unknown code (place: its first byte)"
+  unfoldable pub codeAt : (List ℕ → ExprReader) → List ℕ → ℕ → ExprReader
+  codeAt expr vars zero sort left p = variableAt bs base e vars sort left p
+  codeAt expr vars (suc zero) sort left p = nodeAt base left p (λ l. applyAt (expr vars) sort l p)
+  codeAt expr vars (suc (suc zero)) sort left p = nodeAt base left p (λ l. choiceAt (expr vars) sort l p)
+  codeAt expr vars (suc (suc (suc zero))) sort left p = nodeAt base left p (λ l. got (leaving l Expr.fail) (p + 1))
+  codeAt expr vars (suc (suc (suc (suc zero)))) sort left p = sharedAt expr vars sort left p
+  codeAt expr vars (suc (suc (suc (suc (suc c))))) sort left p = refusal (base + 4) p
+
+  -- The first number bounds how deep expressions stand in expressions: each stands behind the code of the one around it, so no deeper
+  -- than there are bytes up to e. Where no bytes are left the code's own byte is missing.
   unfoldable pub exprAt : ℕ → List ℕ → ExprReader
-  exprAt zero vars sort left p = refusal (base + 4) p
+  exprAt zero vars sort left p = refusal (base + 1) e
   exprAt (suc depth) vars sort left p =
       byteAt bs base e p then λ code _.
-      codeAt (exprAt depth vars) vars code sort left p
+      codeAt (exprAt depth) vars code sort left p
 
   -- "64 nodes in one expression (variables don't count)": a whole expression, with what is left of them
   unfoldable pub wholeAt : List ℕ → ℕ → ℕ → Reading (Left Expr)
-  wholeAt vars sort p = exprAt (suc mostExpressionNodes) vars sort mostExpressionNodes p
+  wholeAt vars sort p = exprAt (e - p) vars sort mostExpressionNodes p
 
   unfoldable pub wholeExprAt : List ℕ → ℕ → ℕ → Reading Expr
   wholeExprAt vars sort p =

@@ -1,10 +1,13 @@
-// Expressions: the reader of one and the reader of a row of them call each other, and the node allowance left falls.
+// Expressions: the reader of one and the reader of a row of them call each other, and the node allowance left falls. A shared part (edition
+// 2) is no node, so the bytes left are what bounds how deep they call each other.
+ghost use mathlib.Core.List.{[], _∷_, _++_};
 ghost use mathlib.Core.Path.{_≡_};
 ghost use Prim.Native.Nat.{ℕ, _+_, _<_, _≤_};
-ghost use lib.ListN.{length, drop};
+ghost use lib.ListN.{length, take, drop};
+ghost use Rattle.limits.specs.Sizes.{mostVariables};
 ghost use Rattle.reading.specs.Answer.{readingOf, keeping, baseOf, partOf};
 ghost use Rattle.symbols.specs.Table.{symbolsIn, argumentsOfAByte};
-ghost use Rattle.expressions.specs.ExpressionAt.{leftOf, variableAt, rowWith, appliedAt, exprAt, wholeAt};
+ghost use Rattle.expressions.specs.ExpressionAt.{leftOf, variableAt, rowWith, appliedAt, sharedAt, exprAt, wholeAt};
 ghost use Rattle.expressions.specs.Whose.{whose};
 use limits::Limits;
 use reading::Asker;
@@ -88,6 +91,71 @@ fn read_applied(book: &[u8], at: &[u16], s: &[u8], who: Asker, sort: u8, p: usiz
     }
 }
 
+// The sorts of the variables bound, and of one more behind them.
+fn with_one_more(vars: &[u8], sort: u8) -> [u8; Limits::VARIABLES]
+    requires { ⌜ length (now vars) < mostVariables ⌝ }
+    ensures { λ r. ⌜ take (length (now (vars .entry)) + 1) r ≡ now (vars .entry) ++ (sort ∷ []) ⌝ }
+{
+    let mut more = [0u8; Limits::VARIABLES];
+    let mut j: usize = 0;
+    while j < vars.len() {
+        more[j] = vars[j];
+        j += 1;
+    }
+    more[j] = sort;
+    more
+}
+
+// A shared part, whose code stands at p, and the body behind it, in which it is one variable more: the allowance left behind them.
+fn read_shared(
+    book: &[u8],
+    at: &[u16],
+    s: &[u8],
+    who: Asker,
+    vars: &[u8],
+    sort: u8,
+    left: usize,
+    p: usize,
+) -> Reading
+    requires { ⌜ p < length (now s) ⌝ }
+    ensures { λ r. ⌜ ((f : ℕ) → length (now (s .entry)) ≤ p + 1 + f → readingOf r ≡ keeping leftOf (sharedAt (now (s .entry)) (baseOf who) (symbolsIn (now (book .entry)) (now (at .entry))) (length (now (s .entry))) (exprAt (now (s .entry)) (baseOf who) (symbolsIn (now (book .entry)) (now (at .entry))) (length (now (s .entry))) f) (now (vars .entry)) sort left p)) ⌝ }
+{
+    let e = s.len();
+    if byte(s, 0) != 2 {
+        return Reading::Refusal {
+            number: base_of(who) + 4,
+            place: p,
+        };
+    }
+    if Limits::VARIABLES <= vars.len() {
+        return Reading::Refusal {
+            number: base_of(who) + 4,
+            place: p,
+        };
+    }
+    if between(p, e) < 2 {
+        return Reading::Refusal {
+            number: base_of(who) + 1,
+            place: e,
+        };
+    }
+    let t = byte(s, p + 1);
+    if Limits::LAST_SORT < t {
+        return Reading::Refusal {
+            number: base_of(who) + 3,
+            place: p + 1,
+        };
+    }
+    match read_expr(book, at, s, who, vars, t, left, p + 2) {
+        Reading::Refusal { number, place } => Reading::Refusal { number, place },
+        Reading::Got { value, next } => {
+            let more = with_one_more(vars, t);
+            let bound = vars.len() + 1;
+            read_expr(book, at, s, who, &more[0..bound], sort, value, next)
+        }
+    }
+}
+
 // An expression of the sort asked for, at p of an item that is all of s: the allowance left behind it.
 fn read_expr(
     book: &[u8],
@@ -99,7 +167,7 @@ fn read_expr(
     left: usize,
     p: usize,
 ) -> Reading
-    ensures { λ r. ⌜ ((f : ℕ) → left < f → readingOf r ≡ keeping leftOf (exprAt (now (s .entry)) (baseOf who) (symbolsIn (now (book .entry)) (now (at .entry))) (length (now (s .entry))) f (now (vars .entry)) sort left p)) ⌝ }
+    ensures { λ r. ⌜ ((f : ℕ) → length (now (s .entry)) ≤ p + f → readingOf r ≡ keeping leftOf (exprAt (now (s .entry)) (baseOf who) (symbolsIn (now (book .entry)) (now (at .entry))) (length (now (s .entry))) f (now (vars .entry)) sort left p)) ⌝ }
 {
     let e = s.len();
     if e <= p {
@@ -111,6 +179,9 @@ fn read_expr(
     let code = byte(s, p);
     if code == 0 {
         return read_variable(s, who, vars, sort, left, p);
+    }
+    if code == 4 {
+        return read_shared(book, at, s, who, vars, sort, left, p);
     }
     if 3 < code {
         return Reading::Refusal {
@@ -155,7 +226,7 @@ fn read_row(
     p: usize,
 ) -> Reading
     requires { ⌜ length (now sorts) ≤ argumentsOfAByte ⌝ }
-    ensures { λ r. ⌜ ((f : ℕ) → left < f → readingOf r ≡ keeping leftOf (rowWith (exprAt (now (s .entry)) (baseOf who) (symbolsIn (now (book .entry)) (now (at .entry))) (length (now (s .entry))) f (now (vars .entry))) (now (sorts .entry)) left p)) ⌝ }
+    ensures { λ r. ⌜ ((f : ℕ) → length (now (s .entry)) ≤ p + f → readingOf r ≡ keeping leftOf (rowWith (exprAt (now (s .entry)) (baseOf who) (symbolsIn (now (book .entry)) (now (at .entry))) (length (now (s .entry))) f (now (vars .entry))) (now (sorts .entry)) left p)) ⌝ }
 {
     if sorts.len() == 0 {
         return Reading::Got {

@@ -22,13 +22,15 @@ unfoldable pub symbolsLaid : Symbols → List ℕ
 symbolsLaid [] = []
 symbolsLaid (x ∷ rest) = symbolLaid x ++ symbolsLaid rest
 
--- "0 variable, one byte; 1 apply, a two-byte symbol, then arguments; 2 choice, two expressions; 3 fail"
+-- "0 variable, one byte; 1 apply, a two-byte symbol, then arguments; 2 choice, two expressions; 3 fail"; in edition 2 also "4: a sort byte, an expression
+-- of that sort, then the body"
 unfoldable mutual
   pub exprLaid : Expr → List ℕ
   exprLaid (Expr.var x) = 0 ∷ x ∷ []
   exprLaid (Expr.apply f es) = 1 ∷ (twoBytes f ++ rowLaid es)
   exprLaid (Expr.choice a b) = 2 ∷ (exprLaid a ++ exprLaid b)
   exprLaid Expr.fail = 3 ∷ []
+  exprLaid (Expr.shared s a b) = 4 ∷ s ∷ (exprLaid a ++ exprLaid b)
 
   pub rowLaid : Exprs → List ℕ
   rowLaid Exprs.noExprs = []

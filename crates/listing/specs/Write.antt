@@ -18,6 +18,7 @@ unfoldable mutual
   nodesOf (Expr.apply f es) = suc (nodesOfRow es)
   nodesOf (Expr.choice a b) = suc (nodesOf a + nodesOf b)
   nodesOf Expr.fail = 1
+  nodesOf (Expr.shared s a b) = nodesOf a + nodesOf b
 
   pub nodesOfRow : Exprs → ℕ
   nodesOfRow Exprs.noExprs = 0

@@ -2,7 +2,7 @@
 -- larger size.
 use mathlib.Core.Bool.{true, false}
 use mathlib.Core.Path.{_≡_, refl, sym, ap, subst}
-use mathlib.Core.List.{List, [], _∷_, _++_, map}
+use mathlib.Core.List.{List, [], _∷_, _++_, map, map-append}
 use Prim.Native.Nat.{ℕ, suc, _+_, _-_, _≤_}
 use native.Mathlib.Omega.{arith}
 use native.Mathlib.Nat.{le-refl}
@@ -16,7 +16,7 @@ use Rattle.rewriting.proofs.Holds.{Holds, holds-append}
 use Rattle.rewriting.proofs.Kept.{make-choices, place-choices}
 use Rattle.meaning.specs.Partial.{Part, Parts, bot, con, toList, _⊑_, bot⊑, con⊑, Hits, Gives, GivesRow}
 use Rattle.meaning.specs.Readings.{Side, sideOf, AgreesIn}
-use Rattle.meaning.proofs.Order.{⊑-refl, ⊑-of-eq, _⊑ˡ_, []⊑, _∷⊑_, variable, hits-mono, gives-mono}
+use Rattle.meaning.proofs.Order.{⊑-refl, ⊑-of-eq, _⊑ˡ_, []⊑, _∷⊑_, variable, append-mono, hits-mono, gives-mono}
 use Rattle.meaning.proofs.Measure.{Read, read-append, row-below}
 
 module _ (B : Book) (env : List ℕ) (ρ : List Part) where
@@ -120,6 +120,26 @@ module _ {B : Book} {env : List ℕ} {ρ : List Part} where
     holds = λ δ π a b r. let u = x .holds δ π a b r in (f δ π (u .0), u .1);
   }
 
+-- a shared part, whose arrow x has q, and then a body with that known of one more variable
+share : {B : Book} {env : List ℕ} {ρ : List Part} {next k s c s′ c′ t x : ℕ} {q : Part} {nodes nodes′ : List Node} {G′ : (ℕ → Side) → (ℕ → Part) → Type 0}
+    → Stretch B env ρ next k nodes c (λ δ π. q ⊑ π x) s → Stretch B (env ++ (x ∷ [])) (ρ ++ (q ∷ [])) (next + length nodes) c nodes′ c′ G′ s′ → s + s′ ≤ t
+    → Stretch B env ρ next k (nodes ++ nodes′) c′ G′ t
+share {B} {env} {next} {k} {x} {nodes} {nodes′} first body l = record {
+  parts = first .parts ++ body .parts;
+  sizes = first .sizes ++ body .sizes;
+  sides = first .sides ++ body .sides;
+  count = simp (length-append, first .count, body .count);
+  numbers = rw length-append (omega (arith, first .numbers, body .numbers));
+  total = rw sum-append (omega (arith, first .total, body .total));
+  holds = λ δ π a b r.
+      let a′ = holds-append π next (first .parts) (body .parts) a in
+      let b′ = holds-append δ k (first .sides) (body .sides) b in
+      let u = first .holds δ π (a′ .0) (b′ .0) r in
+      let w = body .holds δ π (subst (λ m. Holds π m (body .parts)) (ap (_+_ next) (first .count)) (a′ .1))
+      (subst (λ m. Holds δ m (body .sides)) (first .numbers) (b′ .1)) (rw map-append (append-mono r (u .0 ∷⊑ []⊑))) in
+      (w .0, read-append B δ π (u .1) (w .1));
+}
+
 module _ {B : Book} where
   -- how the top node of an application agrees, once its arguments are read
   constructed : {c : ℕ} {xs : List ℕ} (ps : Parts) → B .isConstructor c ≡ true → (δ : ℕ → Side) (π : ℕ → Part) → toList ps ⊑ˡ map π xs
@@ -169,39 +189,47 @@ module _ (B : Book) (env : List ℕ) (a b : Expr) (next k : ℕ) where
       let unread = blank {s = 0} (onLeft .nodes) {G = λ δ π. Unit {0}} (make-choices env a next (suc k) .0) (λ δ π. tt) in
       restate (λ δ π v. chosen Side.right δ π (v .1) (v .0 .1)) (join (decide Side.right unread) x (omega arith))
 
-module _ (B : Book) (env : List ℕ) where
+module _ (B : Book) where
   mutual
     unfolding make toList
 
     -- the nodes of an expression can be read as it gives
-    make-read : {s : ℕ} {e : Expr} {ρ : List Part} {p : Part} → Gives B s e ρ p → (next k : ℕ)
+    make-read : (env : List ℕ) {s : ℕ} {e : Expr} {ρ : List Part} {p : Part} → Gives B s e ρ p → (next k : ℕ)
         → Stretch B env ρ next k (make e env next k .nodes) (make e env next k .choices) (λ δ π. p ⊑ π (make e env next k .arrow)) s
-    make-read {e} Gives.nothing next k = blank (make e env next k .nodes) (make-choices env e next k .0) (λ δ π. bot⊑)
-    make-read (Gives.var {x} h) next k = none-made (λ δ π l. variable env x h π l)
-    make-read (Gives.constructor {ps} c r) next k = push (row-read r (suc next) k) (constructed ps c) (omega arith)
-    make-read (Gives.operation {ps} l f r h g) next k = push (row-read r (suc next) k) (operated ps f h g) (omega arith)
-    make-read (Gives.left {a} {b} l g) next k = push (left-read B env a b (suc next) k (make-read g (suc next) (suc k))) (λ δ π v. v) (omega arith)
-    make-read (Gives.right {a} {b} l g) next k =
+    make-read env {e} Gives.nothing next k = blank (make e env next k .nodes) (make-choices env e next k .0) (λ δ π. bot⊑)
+    make-read env (Gives.var {x} h) next k = none-made (λ δ π l. variable env x h π l)
+    make-read env (Gives.constructor {ps} c r) next k = push (row-read env r (suc next) k) (constructed ps c) (omega arith)
+    make-read env (Gives.operation {ps} l f r h g) next k = push (row-read env r (suc next) k) (operated ps f h g) (omega arith)
+    make-read env (Gives.left {a} {b} l g) next k =
+        push (left-read B env a b (suc next) k (make-read env g (suc next) (suc k))) (λ δ π v. v) (omega arith)
+    make-read env (Gives.right {a} {b} l g) next k =
         let m = make a env (suc next) (suc k) in
-        push (right-read B env a b (suc next) k (make-read g (suc next + length (m .nodes)) (m .choices))) (λ δ π v. v) (omega arith)
+        push (right-read B env a b (suc next) k (make-read env g (suc next + length (m .nodes)) (m .choices))) (λ δ π v. v) (omega arith)
+    make-read env (Gives.shared {a} l g b) next k =
+        let m = make a env next k in
+        share (make-read env g next k) (make-read (env ++ (m .arrow ∷ [])) b (next + length (m .nodes)) (m .choices)) l
 
     -- of a row
-    row-read : {s : ℕ} {es : Exprs} {ρ : List Part} {ps : Parts} → GivesRow B s es ρ ps → (next k : ℕ)
+    row-read : (env : List ℕ) {s : ℕ} {es : Exprs} {ρ : List Part} {ps : Parts} → GivesRow B s es ρ ps → (next k : ℕ)
         → Stretch B env ρ next k (makeRow es env next k .nodes) (makeRow es env next k .choices) (λ δ π. toList ps ⊑ˡ map π (makeRow es env next k .arrows)) s
-    row-read GivesRow.none next k = none-made (λ δ π l. []⊑)
-    row-read (GivesRow.more {e} {es} l g r) next k =
+    row-read env GivesRow.none next k = none-made (λ δ π l. []⊑)
+    row-read env (GivesRow.more {e} {es} l g r) next k =
         let m = make e env next k in
-        restate (λ δ π v. v .0 ∷⊑ v .1) (join (make-read g next k) (row-read r (next + length (m .nodes)) (m .choices)) l)
+        restate (λ δ π v. v .0 ∷⊑ v .1) (join (make-read env g next k) (row-read env r (next + length (m .nodes)) (m .choices)) l)
 
   -- The nodes that take an operation's place can be read so that the old node keeps its value.
-  pub place-read : {s : ℕ} {e : Expr} {ρ : List Part} {p : Part} → Gives B s e ρ p → (next k : ℕ) → (t : ℕ) × (u : ℕ) × (t + u ≤ s)
+  pub place-read : (env : List ℕ) {s : ℕ} {e : Expr} {ρ : List Part} {p : Part} → Gives B s e ρ p → (next k : ℕ) → (t : ℕ) × (u : ℕ) × (t + u ≤ s)
       × Stretch B env ρ next k (place e env next k .nodes) (place e env next k .choices) (λ δ π. AgreesIn B δ π t (place e env next k .top) p) u
   unfolding make place toList
-  place-read {e} Gives.nothing next k = (0, 0, omega arith, blank (place e env next k .nodes) (place-choices env e next k .0) (λ δ π. AgreesIn.idle))
-  place-read (Gives.var {x} h) next k = (0, 0, omega arith, none-made (λ δ π l. AgreesIn.forward (variable env x h π l)))
-  place-read {s} (Gives.constructor {ps} c r) next k = (0, s, omega arith, restate (constructed ps c) (row-read r next k))
-  place-read (Gives.operation {r = i} {t} {ps} l f r h g) next k = (suc t, i, omega arith, restate (operated ps f h g) (row-read r next k))
-  place-read (Gives.left {t} {a} {b} l g) next k = (1, t, omega arith, left-read B env a b next k (make-read g next (suc k)))
-  place-read (Gives.right {t} {a} {b} l g) next k =
+  place-read env {e} Gives.nothing next k = (0, 0, omega arith, blank (place e env next k .nodes) (place-choices env e next k .0) (λ δ π. AgreesIn.idle))
+  place-read env (Gives.var {x} h) next k = (0, 0, omega arith, none-made (λ δ π l. AgreesIn.forward (variable env x h π l)))
+  place-read env {s} (Gives.constructor {ps} c r) next k = (0, s, omega arith, restate (constructed ps c) (row-read env r next k))
+  place-read env (Gives.operation {r = i} {t} {ps} l f r h g) next k = (suc t, i, omega arith, restate (operated ps f h g) (row-read env r next k))
+  place-read env (Gives.left {t} {a} {b} l g) next k = (1, t, omega arith, left-read B env a b next k (make-read env g next (suc k)))
+  place-read env (Gives.right {t} {a} {b} l g) next k =
       let m = make a env next (suc k) in
-      (1, t, omega arith, right-read B env a b next k (make-read g (next + length (m .nodes)) (m .choices)))
+      (1, t, omega arith, right-read B env a b next k (make-read env g (next + length (m .nodes)) (m .choices)))
+  place-read env (Gives.shared {r = i} {a} l g b) next k =
+      let m = make a env next k in
+      let (t, u, total, body) = place-read (env ++ (m .arrow ∷ [])) b (next + length (m .nodes)) (m .choices) in
+      (t, i + u, omega arith, share (make-read env g next k) body (le-refl _))

@@ -3,7 +3,7 @@
 use mathlib.Core.Bool.{Bool, true, false}
 use mathlib.Core.Path.{_≡_, refl, sym}
 use mathlib.Core.Logic.{_⊎_, inl, inr}
-use mathlib.Core.List.{List, map}
+use mathlib.Core.List.{List, [], _∷_, _++_, map, map-append}
 use Prim.Native.Nat.{ℕ, suc, _+_}
 use native.Mathlib.Nat.{le-refl}
 use lib.ListN.{length}
@@ -13,7 +13,7 @@ use Rattle.nodes.specs.Nodes.{Node, apply, choice, fail}
 use Rattle.machine.specs.Made.{make, makeRow, place}
 use Rattle.rewriting.specs.Scoped.{Scoped, ScopedRow}
 use Rattle.rewriting.proofs.Holds.{AllFrom, allFrom-split}
-use Rattle.rewriting.proofs.Lists.{getD-mapped}
+use Rattle.rewriting.proofs.Lists.{getD-mapped, length-behind}
 use Rattle.meaning.specs.Partial.{Part, Parts, bot, ofList, _⊑_, Gives, GivesRow}
 use Rattle.meaning.specs.Readings.{Side, left, right, sideOf, OperationGives, Agrees}
 use Rattle.meaning.proofs.Order.{⊑-trans, ⊑-of-eq, ⊑ˡ-refl, toList-ofList, gives-mono, agrees-constructor, agrees-operation}
@@ -55,6 +55,11 @@ module _ (B : Book) (δ : ℕ → Side) (π : ℕ → Part) where
       go left k = (suc s, Gives.left (le-refl _) (gives-mono ga (⊑ˡ-refl ρ) k))
       go right k = (suc t, Gives.right (le-refl _) (gives-mono gb (⊑ˡ-refl ρ) k))
 
+  -- what a body may have with what the shared part's arrow x has, both give together
+  shared-gives : (env : List ℕ) (x : ℕ) {n : ℕ} {a b : Expr} {p : Part} → Given B a (map π env) (π x) → Given B b (map π (env ++ (x ∷ []))) p
+      → Given B (Expr.shared n a b) (map π env) p
+  shared-gives env x (s, first) (t, body) = (s + t, Gives.shared (le-refl _) first (rw map-append at body))
+
   mutual
     unfolding make ofList
 
@@ -71,6 +76,12 @@ module _ (B : Book) (δ : ℕ → Side) (π : ℕ → Part) where
         choice-gives k (l .arrow) (r .arrow) (make-gives c env (suc n) (suc k) sc fl)
         (make-gives d env (suc n + length (l .nodes)) (l .choices) sd fr) (agrees-choice B δ π refl .0 a)
     make-gives Expr.fail env n k scoped (a, fits) = (0, rw (agrees-fail B δ π refl .0 a) Gives.nothing)
+    make-gives (Expr.shared t c d) env n k (sc, sd) fits =
+        let l = make c env n k in
+        let r = make d (env ++ (l .arrow ∷ [])) (n + length (l .nodes)) (l .choices) in
+        let (fl, fr) = allFrom-split (λ m x. Agrees B δ π x (π m)) n (l .nodes) (r .nodes) fits in
+        shared-gives env (l .arrow) (make-gives c env n k sc fl)
+        (make-gives d (env ++ (l .arrow ∷ [])) (n + length (l .nodes)) (l .choices) (rw length-behind sd) fr)
 
     -- of a row
     pub makeRow-gives : (es : Exprs) (env : List ℕ) (n k : ℕ) → ScopedRow (length env) es → Fits B δ π n (makeRow es env n k .nodes)
@@ -98,3 +109,9 @@ module _ (B : Book) (δ : ℕ → Side) (π : ℕ → Part) where
       choice-gives k (l .arrow) (r .arrow) (make-gives c env n (suc k) sc fl) (make-gives d env (n + length (l .nodes)) (l .choices) sd fr)
       (agrees-choice B δ π refl .0 a)
   place-gives Expr.fail env n k p scoped a fits = (0, rw (agrees-fail B δ π refl .0 a) Gives.nothing)
+  place-gives (Expr.shared t c d) env n k p (sc, sd) a fits =
+      let l = make c env n k in
+      let r = place d (env ++ (l .arrow ∷ [])) (n + length (l .nodes)) (l .choices) in
+      let (fl, fr) = allFrom-split (λ m x. Agrees B δ π x (π m)) n (l .nodes) (r .nodes) fits in
+      shared-gives env (l .arrow) (make-gives c env n k sc fl)
+      (place-gives d (env ++ (l .arrow ∷ [])) (n + length (l .nodes)) (l .choices) p (rw length-behind sd) a fr)

@@ -159,6 +159,7 @@ mutual
       Gives.operation lt c (givesRow-mono row le (⊑*-refl ps)) hits (gives-mono g (⊑ˡ-refl ρ′) k)
   gives-mono (Gives.left lt g) le k = Gives.left lt (gives-mono g le k)
   gives-mono (Gives.right lt g) le k = Gives.right lt (gives-mono g le k)
+  gives-mono (Gives.shared {q = r} few g b) le k = Gives.shared few (gives-mono g le (⊑-refl r)) (gives-mono b (append-mono le (⊑ˡ-refl (r ∷ []))) k)
 
   -- so does a row of them
   givesRow-mono : {B : Book} {s : ℕ} {es : Exprs} {ρ σ : List Part} {ps qs : Parts} → GivesRow B s es ρ ps → ρ ⊑ˡ σ → qs ⊑* ps → GivesRow B s es σ qs

@@ -2,7 +2,7 @@
 use mathlib.Core.Bool.{Bool, true, false}
 use mathlib.Core.Path.{_≡_}
 use mathlib.Core.List.{List, [], _∷_, _++_}
-use Prim.Native.Nat.{ℕ, zero, suc, _<_}
+use Prim.Native.Nat.{ℕ, zero, suc, _-_, _<_}
 use native.Mathlib.Omega.{arith}
 use lib.Dec.{ltb}
 use Rattle.limits.specs.Sizes.{mostExpressionNodes, mostVariables}
@@ -11,7 +11,7 @@ use Rattle.reading.specs.Bytes.{byteAt, numberAt, lengthAt}
 use Rattle.symbols.specs.Symbols.{Symbols, Symbol}
 use Rattle.symbols.specs.SymbolPart.{sortsAt, symbolAt, symbolsAt, opened, symbolPart}
 use Rattle.expressions.specs.Expressions.{Expr}
-use Rattle.expressions.specs.ExpressionAt.{Left, ExprReader, nodeAt, variableAt, rowWith, choiceAt, appliedAt, applyAt, codeAt}
+use Rattle.expressions.specs.ExpressionAt.{Left, ExprReader, nodeAt, variableAt, rowWith, choiceAt, appliedAt, applyAt, sharedAt, codeAt}
 use Rattle.expressions.specs.ExpressionAt.{exprAt, wholeAt, wholeExprAt}
 use Rattle.book.specs.Trees.{Tree}
 use Rattle.book.specs.TreeAt.{treesWith, branchedAt, branchAt, treeCodeAt, treeIn, itemAt, treesOf, treePart}
@@ -84,30 +84,34 @@ module _ (bs : List ℕ) (base e : ℕ) where
 
   module _ (S : Symbols) where
     -- an expression by its code
-    code-numbered : (expr : ExprReader) → NumberedReader expr → (vars : List ℕ) (c : ℕ) → NumberedReader (codeAt bs base S e expr vars c)
-    unfolding codeAt variableAt appliedAt applyAt choiceAt
+    code-numbered : (expr : List ℕ → ExprReader) → ((vars : List ℕ) → NumberedReader (expr vars)) → (vars : List ℕ) (c : ℕ)
+        → NumberedReader (codeAt bs base S e expr vars c)
+    unfolding codeAt variableAt appliedAt applyAt choiceAt sharedAt
     code-numbered expr reads vars zero s left p =
         next (byte-numbered _) λ x q. unless _ _ _ (omega arith) λ _. unless _ _ _ (omega arith) λ _. read
     code-numbered expr reads vars (suc zero) s left p =
         node-numbered left p λ l.
         next (next (number-numbered _) λ f q. unless _ _ _ (omega arith) λ _. unless _ _ _ (omega arith) λ _. read) λ f q.
-        next (row-numbered expr reads _ l q) λ r t. read
+        next (row-numbered (expr vars) (reads vars) _ l q) λ r t. read
     code-numbered expr reads vars (suc (suc zero)) s left p =
-        node-numbered left p λ l. next (reads s l _) λ a q. next (reads s (a .left) q) λ b t. read
+        node-numbered left p λ l. next (reads vars s l _) λ a q. next (reads vars s (a .left) q) λ b t. read
     code-numbered expr reads vars (suc (suc (suc zero))) s left p = node-numbered left p λ l. read
-    code-numbered expr reads vars (suc (suc (suc (suc c)))) s left p = refused-with _ _ (omega arith)
+    code-numbered expr reads vars (suc (suc (suc (suc zero)))) s left p =
+        unless _ _ _ (omega arith) λ _. unless _ _ _ (omega arith) λ _. next (byte-numbered _) λ t q. unless _ _ _ (omega arith) λ _.
+        next (reads vars t left q) λ a r. next (reads (vars ++ (t ∷ [])) s (a .left) r) λ b u. read
+    code-numbered expr reads vars (suc (suc (suc (suc (suc c))))) s left p = refused-with _ _ (omega arith)
 
     -- however deep
     expr-numbered : (depth : ℕ) (vars : List ℕ) → NumberedReader (exprAt bs base S e depth vars)
     unfolding exprAt
     expr-numbered zero vars s left p = refused-with _ _ (omega arith)
     expr-numbered (suc depth) vars s left p =
-        next (byte-numbered p) λ c _. code-numbered (exprAt bs base S e depth vars) (expr-numbered depth vars) vars c s left p
+        next (byte-numbered p) λ c _. code-numbered (exprAt bs base S e depth) (expr-numbered depth) vars c s left p
 
     -- a whole expression
     whole-numbered : (vars : List ℕ) (s p : ℕ) → Numbered (wholeExprAt bs base S e vars s p)
     unfolding wholeExprAt wholeAt
-    whole-numbered vars s p = next (expr-numbered (suc mostExpressionNodes) vars s mostExpressionNodes p) λ x q. read
+    whole-numbered vars s p = next (expr-numbered (e - p) vars s mostExpressionNodes p) λ x q. read
 
 -- ---- symbols
 
@@ -138,7 +142,7 @@ module _ (bs : List ℕ) where
   unfolding symbolPart opened
   symbolPart-numbered =
       next (unless _ _ _ (omega arith) λ _. next (byte-numbered bs 0 _ 0) λ version p.
-      unless _ _ _ (omega arith) λ _. next (length-numbered bs 0 _ p) λ e q.
+      unless _ _ _ (omega arith) λ _. unless _ _ _ (omega arith) λ _. next (length-numbered bs 0 _ p) λ e q.
       unless _ _ _ (omega arith) λ _. read) λ e p.
       symbols-numbered _ e 0 p
 
@@ -167,7 +171,7 @@ module _ (bs : List ℕ) (S : Symbols) (s e : ℕ) where
   -- a tree by its code
   treeCode-numbered : (tree : List ℕ → List ℕ → ℕ → Reading Tree) → NumberedTrees tree → (c : ℕ) → NumberedTrees (treeCodeAt bs S s e tree c)
   unfolding treeCodeAt
-  treeCode-numbered tree reads zero vars done p = read
+  treeCode-numbered tree reads zero vars done p = unless _ _ _ (omega arith) λ _. read
   treeCode-numbered tree reads (suc zero) vars done p = next (whole-numbered bs 0 e S vars s _) λ x q. read
   treeCode-numbered tree reads (suc (suc zero)) vars done p = branch-numbered tree reads vars done p
   treeCode-numbered tree reads (suc (suc (suc c))) vars done p = refused-with _ _ (omega arith)
@@ -212,7 +216,7 @@ book-numbered bs = next (symbolPart-numbered bs) λ S p. next (treePart-numbered
 question-numbered : (S : Symbols) (bs : List ℕ) → Numbered (readQuestion S bs)
 unfolding readQuestion questionOpened askedAt
 question-numbered S bs =
-    next (unless _ _ _ (omega arith) λ _. next (byte-numbered bs 10 _ 0) λ version p. unless _ _ _ (omega arith) λ _. length-numbered bs 10 _ p) λ e p.
+    next (unless _ _ _ (omega arith) λ _. next (byte-numbered bs 10 _ 0) λ version p. unless _ _ _ (omega arith) λ _. unless _ _ _ (omega arith) λ _. length-numbered bs 10 _ p) λ e p.
     next (byte-numbered bs 10 e p) λ s q. unless _ _ _ (omega arith) λ _.
     next (whole-numbered bs 10 e S [] s q) λ x r. unless _ _ _ (omega arith) λ _. unless _ _ _ (omega arith) λ _. read
 

@@ -11,7 +11,7 @@ use Rattle.expressions.specs.Expressions.{Expr, Exprs}
 use Rattle.nodes.specs.Nodes.{Node, apply, choice, fail, forward, Heap, at}
 use Rattle.machine.specs.Made.{Placed, make, makeRow, place, rewritten}
 use Rattle.rewriting.proofs.Heaps.{ChoiceBelow, ChoicesBelow}
-use Rattle.rewriting.proofs.Kept.{make-choices, makeRow-choices}
+use Rattle.rewriting.proofs.Kept.{make-choices, makeRow-choices, place-choices}
 
 -- 1 if P holds, else 0
 unfoldable pub one : {P : Type 0} → Dec P → ℕ
@@ -174,6 +174,14 @@ within-choice {k} {c} {a} le w = record {
     go i (yes q) = omega (arith, one-le (ℕ-discrete i k), w .low i (omega arith))
     go i (no q) = omega (arith, none-of (ℕ-discrete i k) q, w .once i)
 
+-- a node moved to the front
+within-moved : {k c : ℕ} (a : List Node) (x : Node) (b : List Node) → Within k c (a ++ (x ∷ b)) → Within k c (x ∷ (a ++ b))
+unfolding count
+within-moved a x b w = record { once = λ i. rw (moved i) (w .once i); low = λ i q. rw (moved i) (w .low i q); high = λ i q. rw (moved i) (w .high i q) }
+  where
+    moved : (i : ℕ) → stands i x + count i (a ++ b) ≡ count i (a ++ (x ∷ b))
+    moved i = omega (arith, count-append i a b, count-append i a (x ∷ b))
+
 mutual
   unfolding make stands
 
@@ -187,6 +195,11 @@ mutual
       let g′ = make-choices env b (suc next + length (m .nodes)) (m .choices) .0 in
       within-choice (le-trans g g′) (within-join g g′ (make-within a env (suc next) (suc k)) (make-within b env (suc next + length (m .nodes)) (m .choices)))
   make-within Expr.fail env next k = within-other _ (λ i. refl) within-none
+  make-within (Expr.shared s a b) env next k =
+      let m = make a env next k in
+      let bound = env ++ (m .arrow ∷ []) in
+      within-join (make-choices env a next k .0) (make-choices bound b (next + length (m .nodes)) (m .choices) .0)
+      (make-within a env next k) (make-within b bound (next + length (m .nodes)) (m .choices))
 
   row-within : (es : Exprs) (env : List ℕ) (next k : ℕ) → Within k (makeRow es env next k .choices) (makeRow es env next k .nodes)
   row-within Exprs.noExprs env next k = within-none
@@ -207,6 +220,11 @@ place-within (Expr.choice a b) env next k =
     let g′ = make-choices env b (next + length (m .nodes)) (m .choices) .0 in
     within-choice (le-trans g g′) (within-join g g′ (make-within a env next (suc k)) (make-within b env (next + length (m .nodes)) (m .choices)))
 place-within Expr.fail env next k = within-other _ (λ i. refl) within-none
+place-within (Expr.shared s a b) env next k =
+    let m = make a env next k in
+    let bound = env ++ (m .arrow ∷ []) in
+    within-moved (m .nodes) _ _ (within-join (make-choices env a next k .0) (place-choices bound b (next + length (m .nodes)) (m .choices) .0)
+    (make-within a env next k) (place-within b bound (next + length (m .nodes)) (m .choices)))
 
 -- choices that are not used yet stand nowhere
 unused : (i k : ℕ) (h : List Node) → k ≤ i → ChoicesBelow k h → count i h ≡ 0

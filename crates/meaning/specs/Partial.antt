@@ -61,6 +61,8 @@ module _ (B : Book) where
           → Gives s (Expr.apply f es) ρ p
       left : {s t : ℕ} {a b : Expr} {ρ : List Part} {p : Part} → t < s → Gives t a ρ p → Gives s (Expr.choice a b) ρ p
       right : {s t : ℕ} {a b : Expr} {ρ : List Part} {p : Part} → t < s → Gives t b ρ p → Gives s (Expr.choice a b) ρ p
+      shared : {s r t n : ℕ} {a b : Expr} {ρ : List Part} {q p : Part} → r + t ≤ s → Gives r a ρ q → Gives t b (ρ ++ (q ∷ [])) p
+          → Gives s (Expr.shared n a b) ρ p
 
     -- the same of a row of expressions
     pub data GivesRow : ℕ → Exprs → List Part → Parts → Type 0 where

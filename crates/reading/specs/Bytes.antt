@@ -13,6 +13,10 @@ bigEndian bs p = getD bs p 0 * 256 + getD bs (p + 1) 0
 unfoldable pub twoBytes : ℕ → List ℕ
 twoBytes n = n / 256 ∷ n % 256 ∷ []
 
+-- the edition of a book or a question, by its version byte
+abbrev pub versionOf : List ℕ → ℕ
+versionOf bs = getD bs 0 0
+
 -- `base` is 0 in a book and 10 in a question: "11 to 15: the same in the question"
 module _ (bs : List ℕ) (base e : ℕ) where
   -- "a needed byte lies past its part or item (place: that end)"

@@ -10,7 +10,7 @@ use lib.ListN.{length, getD}
 use Rattle.limits.specs.Sizes.{mostVariables}
 use Rattle.reading.specs.Reading.{Reading, got}
 use Rattle.reading.specs.Bytes.{byteAt, lengthAt}
-use Rattle.reading.proofs.Good.{Good, good, refused, good-got, then-good, unless}
+use Rattle.reading.proofs.Good.{Good, good, refused, good-got, then-good, both, unless}
 use Rattle.symbols.specs.Symbols.{Symbol, Symbols, noSymbol, symbolOf, constructorsOf}
 use Rattle.symbols.specs.SymbolPart.{symbolPart}
 use Rattle.expressions.specs.Expressions.{Expr}
@@ -18,25 +18,41 @@ use Rattle.book.specs.Trees.{Tree, Trees, treeAt}
 use Rattle.book.specs.TreeAt.{bindsPast, treesWith, branchedAt, branchAt, treeCodeAt, treeIn, itemAt, treesOf, treePart}
 use Rattle.book.specs.Rules.{Rules}
 use Rattle.book.specs.Admission.{readBook, readQuestion}
+use Rattle.machine.specs.Made.{Bound, BoundRow}
+use Rattle.rewriting.proofs.Lists.{length-behind}
 use Rattle.sorts.specs.Sorts.{sortOf, argumentsOf, ExprFits, RowFits, TreeFits, TreesFit, RulesFit}
 use Rattle.sorts.proofs.EachRead.{any, OfEachKind, whole-reads, question-reads}
 
 -- an expression that was read fits the sort asked for
-expressions-fit : (S : Symbols) (vars : List ℕ) → OfEachKind S vars (λ s left x. ExprFits S vars (x .what) s) (λ ss left x. RowFits S vars (x .what) ss)
-expressions-fit S vars = record {
-  var = λ s left x known sorted. (known, sorted);
-  apply = λ s left f r known sorted fit. (known, sorted, fit);
-  choice = λ s left a b l r. (l, r);
-  fail = λ s left. tt;
-  none = λ left. tt;
-  more = λ s left ss a r fits fit. (fits, fit);
+expressions-fit : (S : Symbols) → OfEachKind S (λ vars s left x. ExprFits S vars (x .what) s) (λ vars ss left x. RowFits S vars (x .what) ss)
+expressions-fit S = record {
+  var = λ vars s left x known sorted. (known, sorted);
+  apply = λ vars s left f r known sorted fit. (known, sorted, fit);
+  choice = λ vars s left a b l r. (l, r);
+  fail = λ vars s left. tt;
+  shared = λ vars s left t a b few first body. (first, body);
+  none = λ vars left. tt;
+  more = λ vars s left ss a r fits fit. (fits, fit);
+}
+
+-- and binds no more variables than there may be
+expressions-bound : (S : Symbols) → OfEachKind S (λ vars s left x. Bound (length vars) (x .what)) (λ vars ss left x. BoundRow (length vars) (x .what))
+unfolding Bound
+expressions-bound S = record {
+  var = λ vars s left x known sorted. tt;
+  apply = λ vars s left f r known sorted row. row;
+  choice = λ vars s left a b l r. (l, r);
+  fail = λ vars s left. tt;
+  shared = λ vars s left t a b few first body. (few, first, rw length-behind at body);
+  none = λ vars left. tt;
+  more = λ vars s left ss a r first others. (first, others);
 }
 
 -- P is said of a tree read for an operation of sort s, with the sorts of the variables bound on the path, R of a row of them, one for
 -- each row of sorts: both hold of each kind of tree if they hold of the parts.
 pub record OfEachTree (S : Symbols) (s : ℕ) (P : Tree → List ℕ → Type 0) (R : Trees → List ℕ → List (List ℕ) → Type 0) : Type 0 where
   pub exempt : (vars : List ℕ) → P Tree.exempt vars
-  pub rule : (vars : List ℕ) (x : Expr) → ExprFits S vars x s → P (Tree.rule x) vars
+  pub rule : (vars : List ℕ) (x : Expr) → ExprFits S vars x s → Bound (length vars) x → P (Tree.rule x) vars
   pub branch : (vars : List ℕ) (x : ℕ) (ts : Trees) → x < length vars → bindsPast (length vars) (constructorsOf (getD vars x 0) S) ≡ false
       → R ts vars (constructorsOf (getD vars x 0) S) → P (Tree.branch x ts) vars
   pub none : (vars : List ℕ) → R Trees.noTrees vars []
@@ -80,7 +96,8 @@ module _ (bs : List ℕ) {S : Symbols} {s : ℕ} (e : ℕ) {P : Tree → List �
   unfolding treeCodeAt
   treeCode-reads tree reads zero vars done p = good (each .exempt vars)
   treeCode-reads tree reads (suc zero) vars done p =
-      then-good (whole-reads bs 0 e (expressions-fit S vars) s _) λ x q is. good (each .rule vars x (is .1))
+      then-good (both (whole-reads bs 0 e (expressions-fit S) vars s _) (whole-reads bs 0 e (expressions-bound S) vars s _)) λ x q is.
+      good (each .rule vars x (is .0 .1) (is .1 .1))
   treeCode-reads tree reads (suc (suc zero)) vars done p = branch-reads tree reads vars done p
   treeCode-reads tree reads (suc (suc (suc c))) vars done p = refused
 
@@ -146,7 +163,7 @@ module _ (bs : List ℕ) {P : Symbols → ℕ → Tree → List ℕ → Type 0} 
 trees-fit : (S : Symbols) (s : ℕ) → OfEachTree S s (TreeFits S s) (TreesFit S s)
 trees-fit S s = record {
   exempt = λ vars. tt;
-  rule = λ vars x fits. fits;
+  rule = λ vars x fits bound. fits;
   branch = λ vars x ts known few fit. (known, fit);
   none = λ vars. tt;
   more = λ vars sorts rest t ts fits fit. (fits, fit);
@@ -158,4 +175,8 @@ book-fits bs admitted = book-reads bs trees-fit admitted
 
 -- an admitted question fits some sort, with no variables
 pub question-fits : (S : Symbols) (bs : List ℕ) {q : Expr} {p : ℕ} → readQuestion S bs ≡ got q p → (s : ℕ) × ExprFits S [] q s
-question-fits S bs asked = let (s, l, fits) = question-reads S bs (expressions-fit S []) asked in (s, fits)
+question-fits S bs asked = let (s, l, fits) = question-reads S bs (expressions-fit S) asked in (s, fits)
+
+-- and binds no more variables than there may be
+pub question-bound : (S : Symbols) (bs : List ℕ) {q : Expr} {p : ℕ} → readQuestion S bs ≡ got q p → Bound 0 q
+question-bound S bs asked = let (s, l, bound) = question-reads S bs (expressions-bound S) asked in bound

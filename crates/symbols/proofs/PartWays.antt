@@ -158,12 +158,17 @@ module _ (bs : List ℕ) where
     opened-empty r = simp (opened, refuse_at_if_else_, _then_, known, ← r)
 
     module _ {v p : ℕ} (version : got v p ≡ byteAt bs 0 (length bs) 0) where
-      -- it has another version
-      pub opened-other : (v ≡ 1 → ⊥) → refusal 2 0 ≡ opened bs
+      -- it has version 0
+      pub opened-zero : v ≡ 0 → refusal 2 0 ≡ opened bs
       unfolding opened refuse_at_if_else_ _then_
-      opened-other h = simp (opened, refuse_at_if_else_, _then_, known, ← version)
+      opened-zero h = simp (opened, refuse_at_if_else_, _then_, known, ← version)
 
-      module _ (one : v ≡ 1) where
+      -- or one above 2
+      pub opened-above : (v ≡ 0 → ⊥) → 2 < v → refusal 2 0 ≡ opened bs
+      unfolding opened refuse_at_if_else_ _then_
+      opened-above some h = simp (opened, refuse_at_if_else_, _then_, known, ← version)
+
+      module _ (some : v ≡ 0 → ⊥) (edition : v ≤ 2) where
         -- the part's length is not there or runs past the book
         pub opened-past : {c q : ℕ} → refusal c q ≡ lengthAt bs 0 (length bs) p → refusal c q ≡ opened bs
         unfolding opened refuse_at_if_else_ _then_

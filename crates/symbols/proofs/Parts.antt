@@ -180,7 +180,7 @@ module _ (bs : List ℕ) where
   opened-good =
       unless _ _ (ltb mostBookBytes (length bs)) λ _ size.
       then-good (byte-good bs 0 (length bs) 0) λ version p byte.
-      unless _ _ _ λ _ _.
+      unless _ _ _ λ _ _. unless _ _ _ λ _ _.
       then-good (length-good bs 0 (length bs) p) λ e q part.
       unless _ _ (eqb q e) λ _ some.
       good (record { first = omega arith; some = omega (arith, eqb-false q e some); inside = omega arith; size = ltb-false _ _ size })

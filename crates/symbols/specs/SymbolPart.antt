@@ -1,5 +1,5 @@
 -- The symbol part: bytes to symbols, with the refusals 1 and 3.
-use mathlib.Core.Bool.{true, false, not}
+use mathlib.Core.Bool.{true, false}
 use mathlib.Core.List.{List, [], _∷_}
 use Prim.Native.Nat.{ℕ, zero, suc, _+_, _-_}
 use lib.Dec.{leb, ltb, eqb}
@@ -48,14 +48,15 @@ module _ (bs : List ℕ) where
         got (x ∷ rest) r
   ]
 
-  -- "A book is a version byte 1, the symbol part, the tree part": the end of the symbol part, and the place of its first symbol.
-  -- "book over its size (place 0)"; "version byte is not 1 (place: 0)"; "no symbols (place: the part's length)"
+  -- "A book is a version byte .., the symbol part, the tree part": the end of the symbol part, and the place of its first symbol.
+  -- "book over its size (place 0)"; "2 and 12 now mean neither 1 nor 2"; "no symbols (place: the part's length)"
   unfoldable pub opened : Reading ℕ
   opened =
       let size = length bs in
       refuse 1 at 0 if ltb mostBookBytes size else λ _.
       byteAt bs 0 size 0 then λ version p.
-      refuse 2 at 0 if not (eqb version 1) else λ _.
+      refuse 2 at 0 if eqb version 0 else λ _.
+      refuse 2 at 0 if ltb 2 version else λ _.
       lengthAt bs 0 size p then λ e q.
       refuse 3 at p if eqb q e else λ _.
       got e q

@@ -141,7 +141,13 @@ fn open_part(book: &[u8]) -> Reading
             value: version,
             next,
         } => {
-            if version != 1 {
+            if version == 0 {
+                return Reading::Refusal {
+                    number: 2,
+                    place: 0,
+                };
+            }
+            if 2 < version {
                 return Reading::Refusal {
                     number: 2,
                     place: 0,

@@ -9,6 +9,7 @@ use borrow.Author.Tests.{lt-ltb, le-ltb}
 use lib.ListN.{length, length-append, take-append-drop}
 use Rattle.limits.specs.Sizes.{mostBookBytes}
 use Rattle.reading.specs.Reading.{Reading, got, refusal}
+use Rattle.reading.specs.Bytes.{versionOf}
 use Rattle.reading.proofs.Good.{Good, good, good-got, then-good, whenever}
 use Rattle.symbols.specs.Symbols.{Symbols}
 use Rattle.symbols.specs.SymbolPart.{symbolPart}
@@ -131,15 +132,20 @@ made-of rows {bs} is = by (decLt mostBookBytes (length (front rows))) (symbolPar
 -- the book of these rows has these rows
 rows-back : (rows : Rows) (symbols : Symbols) (p : ℕ) → symbolPart (front rows) ≡ got symbols p → (rules : Rules) (end : ℕ)
     → length (wholeOf rows symbols) ≤ mostBookBytes → BookStands (wholeOf rows symbols) rules end → rowsOf rules ≡ rows
-unfolding rowsOf FewArguments
+unfolding rowsOf FewArguments frontBytes
 rows-back rows symbols p read rules end size parts =
     let alone = front-alone (rows .symbols) (treePartBytes (aritiesOf symbols) (rows .trees)) size in
     let same : rules .symbols ≡ symbols = cc (parts .symbols-read) in
     let place : parts .behind ≡ p = cc (parts .symbols-read) in
     let back = symbols-back (rows .symbols) read in
     let few : FewArguments symbols = λ f h. part-got (front rows) read .inRange f .fewArguments in
-    let trees = trees-back (front rows) (rows .trees) symbols (rules .trees) end few size (cc (parts .trees-read)) in
+    let trees = trees-back (front rows) (rows .trees) symbols (rules .trees) end few refl size (cc (parts .trees-read)) in
     ap₂ (λ (a b : List ℕ). record { symbols = a; trees = b }) (cc) (cc)
+
+-- what is made is of edition 1
+first-edition : (rows : Rows) (symbols : Symbols) → versionOf (wholeOf rows symbols) ≡ 1
+unfolding frontBytes
+first-edition rows symbols = refl
 
 -- what is made is read back to the same rows
 pub reads-back : ReadsBack
@@ -149,21 +155,22 @@ reads-back rows bs is =
     record {
       rules = book .rules;
       end = book .end;
+      edition = rw (book .same) at (first-edition rows (by .symbols));
       admitted = rw (book .same) at (book .read);
       same = rows-back rows (by .symbols) (by .behind) (by .read) (book .rules) (book .end) (book .size) (good-got (book-stands _) (book .read));
     }
 
 -- the rows of a book are made into it
-made-again : (bs : List ℕ) → Bytes bs → (rules : Rules) (end : ℕ) → readBook bs ≡ got rules end → madeOf (rowsOf rules) ≡ made bs
+made-again : (bs : List ℕ) → versionOf bs ≡ 1 → Bytes bs → (rules : Rules) (end : ℕ) → readBook bs ≡ got rules end → madeOf (rowsOf rules) ≡ made bs
 unfolding rowsOf
-made-again bs bytes rules end read =
+made-again bs edition bytes rules end read =
     let rows = rowsOf rules in
     let whole = wholeOf rows (rules .symbols) in
     let trees = treePartBytes (aritiesOf (rules .symbols)) (rows .trees) in
     let parts = good-got (book-stands bs) read in
     let size = part-got bs (parts .symbols-read) .size in
-    let first = symbols-laid bs bytes (parts .symbols-read) in
-    let second = trees-laid bs bytes (rules .symbols) (rules .trees) (parts .behind) end size (parts .trees-read) in
+    let first = symbols-laid bs edition bytes (parts .symbols-read) in
+    let second = trees-laid bs edition bytes (rules .symbols) (rules .trees) (parts .behind) end size (parts .trees-read) in
     let same : bs ≡ whole = sym (take-append-drop (parts .behind) bs) ∙ cc (first .0) in
     let fits : length whole ≤ mostBookBytes = rw same at size in
     let short : length (front rows) ≤ mostBookBytes = omega (arith, length-append (front rows) trees) in
@@ -173,7 +180,7 @@ made-again bs bytes rules end read =
 
 -- what was read is made again
 pub writes-back : WritesBack
-writes-back rows bs bytes book = rw (sym (book .same)) (made-again bs bytes (book .rules) (book .end) (book .admitted))
+writes-back rows bs bytes book = rw (sym (book .same)) (made-again bs (book .edition) bytes (book .rules) (book .end) (book .admitted))
 
 -- so the rows accepted are those of some book
 pub exactly : Exactly

@@ -2,20 +2,21 @@
 -- expression; and where the bytes behind it are those of some numbers, its own are those of its numbers and these.
 use mathlib.Core.List.{List, [], _∷_, _++_, append-assoc}
 use mathlib.Core.Path.{_≡_, refl, sym, ap, _∙_}
-use Prim.Native.Nat.{ℕ, zero, suc, _+_, _/_, _%_, _≤_, _<_}
+use Prim.Native.Nat.{ℕ, zero, suc, _+_, _-_, _/_, _%_, _≤_, _<_}
 use native.Mathlib.Omega.{arith}
 use native.Mathlib.Numerals.{add-one}
-use borrow.Author.Tests.{leb-false}
-use lib.Dec.{leb}
+use mathlib.Core.Bool.{not}
+use borrow.Author.Tests.{leb-false, eqb-true, not-false}
+use lib.Dec.{leb, eqb}
 use lib.ListN.{length, getD, drop, length-drop, List·getD-map}
 use lib.Seq.{drop-cons}
 use Rattle.limits.specs.Sizes.{mostVariables, mostExpressionNodes}
 use Rattle.reading.specs.Reading.{Reading}
-use Rattle.reading.specs.Bytes.{bigEndian, twoBytes}
+use Rattle.reading.specs.Bytes.{versionOf, bigEndian, twoBytes}
 use Rattle.reading.proofs.Good.{Good, good, refused, then-good, unless, byte-good, number-good}
 use Rattle.symbols.specs.Symbols.{Symbol, Symbols, noSymbol, symbolOf}
 use Rattle.expressions.specs.Expressions.{Expr, Exprs}
-use Rattle.expressions.specs.ExpressionAt.{Left, leaving, ExprReader, nodeAt, variableAt, rowWith, choiceAt, appliedAt, applyAt, codeAt, exprAt, wholeAt, wholeExprAt}
+use Rattle.expressions.specs.ExpressionAt.{Left, leaving, ExprReader, nodeAt, variableAt, rowWith, choiceAt, appliedAt, applyAt, sharedAt, codeAt, exprAt, wholeAt, wholeExprAt}
 use Rattle.book.specs.Reader.{FewArguments}
 use Rattle.writer.specs.Rows.{exprNumbers, argumentNumbers}
 use Rattle.writer.specs.Layout.{byteOf, aritiesOf, code, variable, symbol, Due, due, behindExpr, behindCode, behind, numberBytes, numbersBytes}
@@ -206,24 +207,26 @@ module _ (S : Symbols) (bs : List ℕ) (e : ℕ) (fits : e ≤ length bs) where
   node-reads (suc left) p f = f left
 
   -- an expression, by its code
-  code-reads : (expr : ExprReader) → Reads expr → (vars : List ℕ) → Narrow S vars → (c s left p : ℕ) → p < e → c ≡ getD bs p 0
+  code-reads : versionOf bs ≡ 1 → (expr : List ℕ → ExprReader) (vars : List ℕ) → Reads (expr vars) → Narrow S vars → (c s left p : ℕ) → p < e → c ≡ getD bs p 0
       → Good (λ x q. ExpressionsAt S bs e 1 p q (exprNumbers (x .what))) (codeAt bs 0 S e expr vars c s left p)
-  unfolding codeAt exprNumbers behindExpr
-  code-reads expr reads vars narrow zero s left p there read = variable-reads vars narrow s left p there read
-  code-reads expr reads vars narrow (suc zero) s left p there read = node-reads left p λ l. apply-reads expr reads s l p there read
-  code-reads expr reads vars narrow (suc (suc zero)) s left p there read = node-reads left p λ l. choice-reads expr reads s l p there read
-  code-reads expr reads vars narrow (suc (suc (suc zero))) s left p there read = node-reads left p λ l. good (record { before = λ m. code-laid m p 3 there read (omega arith) })
-  code-reads expr reads vars narrow (suc (suc (suc (suc c)))) s left p there read = refused
+  unfolding codeAt sharedAt exprNumbers behindExpr
+  code-reads first expr vars reads narrow zero s left p there read = variable-reads vars narrow s left p there read
+  code-reads first expr vars reads narrow (suc zero) s left p there read = node-reads left p λ l. apply-reads (expr vars) reads s l p there read
+  code-reads first expr vars reads narrow (suc (suc zero)) s left p there read = node-reads left p λ l. choice-reads (expr vars) reads s l p there read
+  code-reads first expr vars reads narrow (suc (suc (suc zero))) s left p there read = node-reads left p λ l. good (record { before = λ m. code-laid m p 3 there read (omega arith) })
+  code-reads first expr vars reads narrow (suc (suc (suc (suc zero)))) s left p there read =
+      unless _ _ (not (eqb (versionOf bs) 2)) λ _ second. absurd (omega (arith, eqb-true (versionOf bs) 2 (not-false _ second)))
+  code-reads first expr vars reads narrow (suc (suc (suc (suc (suc c))))) s left p there read = refused
 
   -- an expression
-  expr-reads : (depth : ℕ) (vars : List ℕ) → Narrow S vars → Reads (exprAt bs 0 S e depth vars)
+  expr-reads : versionOf bs ≡ 1 → (depth : ℕ) (vars : List ℕ) → Narrow S vars → Reads (exprAt bs 0 S e depth vars)
   unfolding exprAt
-  expr-reads zero vars narrow s left p = refused
-  expr-reads (suc depth) vars narrow s left p =
-      then-good (byte-good bs 0 e p) λ c q is. code-reads (exprAt bs 0 S e depth vars) (expr-reads depth vars narrow) vars narrow c s left p (omega arith) (is .0)
+  expr-reads first zero vars narrow s left p = refused
+  expr-reads first (suc depth) vars narrow s left p =
+      then-good (byte-good bs 0 e p) λ c q is. code-reads first (exprAt bs 0 S e depth) vars (expr-reads first depth vars narrow) narrow c s left p (omega arith) (is .0)
 
   -- a whole expression, with none to come behind it
-  pub whole-reads : (vars : List ℕ) → Narrow S vars → (s p : ℕ)
+  pub whole-reads : versionOf bs ≡ 1 → (vars : List ℕ) → Narrow S vars → (s p : ℕ)
       → Good (λ x q. Laid S bs (NumbersAt S bs e p (due code 1)) (NumbersAt S bs e q (due code 0)) (exprNumbers x)) (wholeExprAt bs 0 S e vars s p)
   unfolding wholeExprAt wholeAt
-  whole-reads vars narrow s p = then-good (expr-reads (suc mostExpressionNodes) vars narrow s mostExpressionNodes p) λ x q is. good (is .before 0)
+  whole-reads first vars narrow s p = then-good (expr-reads first (e - p) vars narrow s mostExpressionNodes p) λ x q is. good (is .before 0)

@@ -1,6 +1,6 @@
 -- The rows of symbols are the numbers of the symbol part: a front made of rows is read back to them, with or without what follows it, and a book that is
 -- read opens with the front that its rows make.
-use mathlib.Core.Bool.{Bool, true, false, not}
+use mathlib.Core.Bool.{Bool, true, false}
 use mathlib.Core.Logic.{⊎-elim}
 use mathlib.Core.List.{List, [], _∷_, _++_, map, append-assoc, append-nil}
 use mathlib.Core.Path.{_≡_, refl, sym, ap, _∙_}
@@ -8,13 +8,13 @@ use Prim.Native.Nat.{ℕ, zero, suc, _+_, _-_, _*_, _/_, _%_, _<_, _≤_}
 use native.Mathlib.Nat.{eq-or-lt-of-le}
 use native.Mathlib.Numerals.{add-one}
 use native.Mathlib.Omega.{arith}
-use borrow.Author.Tests.{ltb-false, eqb-true, not-false, le-ltb, lt-leb}
+use borrow.Author.Tests.{ltb-false, le-ltb, lt-leb}
 use lib.Dec.{ltb, eqb}
 use lib.ListN.{length, getD, take, drop, length-append, length-map, length-drop, take-append-drop, drop-of-length-le, List·getD-append, List·getD-map}
 use lib.Seq.{drop-cons, drop-drop, take-at}
 use Rattle.limits.specs.Sizes.{mostBookBytes}
 use Rattle.reading.specs.Reading.{Reading, got, refusal, _then_, refuse_at_if_else_}
-use Rattle.reading.specs.Bytes.{bigEndian, twoBytes, byteAt, numberAt, lengthAt}
+use Rattle.reading.specs.Bytes.{versionOf, bigEndian, twoBytes, byteAt, numberAt, lengthAt}
 use Rattle.reading.proofs.Good.{Good, good, good-got, then-good, unless, both, each, byte-good, number-good}
 use Rattle.reading.proofs.Keeping.{then-got, passed}
 use Rattle.symbols.specs.Symbols.{Symbols, symbolOf}
@@ -87,6 +87,7 @@ opened-front ns rest fits =
     passed _ _ (le-ltb mostBookBytes size fits)
     ∙ then-got _ (passed _ _ (lt-leb size 0 (omega arith)))
     ∙ passed _ _ refl
+    ∙ passed _ _ refl
     ∙ then-got _ (then-got _ (passed _ _ (le-ltb size 3 (omega arith))) ∙ passed _ _ (le-ltb size (3 + (n / 256 * 256 + n % 256)) (omega arith)))
     ∙ ap (λ (e : ℕ). refuse 3 at 1 if eqb 3 e else λ _. got e 3) part
 
@@ -156,21 +157,19 @@ module _ (bs : List ℕ) where
   unfolding lengthAt
   length-says e p = then-good (number-good bs 0 e p) λ n q number. unless _ _ _ λ _ _. good (omega arith)
 
-  -- what an opening says: the version, and the end of the part
-  opening-says : Good (λ e q. (getD bs 0 0 ≡ 1) × (e ≡ 3 + bigEndian bs 1)) (opened bs)
+  -- what an opening says: the end of the part
+  opening-says : Good (λ e q. e ≡ 3 + bigEndian bs 1) (opened bs)
   unfolding opened
   opening-says =
       unless _ _ _ λ _ _.
       then-good (byte-good bs 0 (length bs) 0) λ version p byte.
-      unless _ _ (not (eqb version 1)) λ _ one.
-      let is : version ≡ 1 = eqb-true _ _ (not-false _ one) in
+      unless _ _ _ λ _ _. unless _ _ _ λ _ _.
       then-good (length-says (length bs) p) λ e q ends.
       unless _ _ _ λ _ _.
-      good (cc, ends ∙ ap (λ (k : ℕ). k + 2 + bigEndian bs k) (byte .1))
+      good (ends ∙ ap (λ (k : ℕ). k + 2 + bigEndian bs k) (byte .1))
 
 -- where the symbol part of a book stands, with the place p behind it
 record PartStands (bs : List ℕ) (symbols : Symbols) (p : ℕ) : Type 0 where
-  pub version : getD bs 0 0 ≡ 1
   pub behind : p ≡ 3 + bigEndian bs 1
   pub rows : drop 3 bs ≡ symbolRows symbols ++ drop p bs
 
@@ -179,8 +178,7 @@ unfolding symbolPart
 part-stands bs =
     then-good (both (opened-good bs) (opening-says bs)) λ e q (start, says).
     each (λ symbols r (read, stand). record {
-      version = says .0;
-      behind = read .all (omega arith) ∙ says .1;
+      behind = read .all (omega arith) ∙ says;
       rows = rw (start .first) at stand;
     }) (both (symbols-good bs (e - q) e 0 q (start .inside) (omega arith)) (rows-stand bs (e - q) e 0 q (start .inside) (omega arith)))
 
@@ -233,10 +231,10 @@ symbols-back ns {symbols} {p} read =
     (sym (small-bytes ns (λ i. omega (arith, small i, List·getD-map byteOf ns i 0))) ∙ rows, ends ∙ omega arith)
 
 -- a book that is read opens with the front that its rows make
-pub symbols-laid : (bs : List ℕ) → Bytes bs → {symbols : Symbols} {p : ℕ} → symbolPart bs ≡ got symbols p
+pub symbols-laid : (bs : List ℕ) → versionOf bs ≡ 1 → Bytes bs → {symbols : Symbols} {p : ℕ} → symbolPart bs ≡ got symbols p
     → (take p bs ≡ frontBytes (symbolRows symbols)) × (p ≤ length bs)
 unfolding frontBytes partBytes twoBytes
-symbols-laid bs bytes {symbols} {p} read =
+symbols-laid bs edition bytes {symbols} {p} read =
     let ns = symbolRows symbols in
     let part = good-got (part-stands bs) read in
     let known = part-got bs read in
@@ -245,5 +243,5 @@ symbols-laid bs bytes {symbols} {p} read =
     let n : length (map byteOf ns) ≡ bigEndian bs 1 = rw same (omega arith) in
     let hi : length (map byteOf ns) / 256 ≡ getD bs 1 0 = omega (arith, bytes 2) in
     let lo : length (map byteOf ns) % 256 ≡ getD bs 2 0 = omega (arith, bytes 2) in
-    let laid : bs ≡ frontBytes ns ++ drop p bs = three-stand bs 0 (omega arith) ∙ cc (part .rows, part .version) in
+    let laid : bs ≡ frontBytes ns ++ drop p bs = three-stand bs 0 (omega arith) ∙ cc (part .rows, edition) in
     (ap (take p) laid ∙ take-at (frontBytes ns) (drop p bs) p (omega arith), known .inside)

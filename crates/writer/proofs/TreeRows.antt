@@ -11,7 +11,7 @@ use lib.ListN.{length, getD, take, drop, length-drop, length-append, length-take
 use lib.Seq.{take-append-seam, drop-append-seam, drop-drop}
 use Rattle.limits.specs.Sizes.{mostVariables, mostBookBytes}
 use Rattle.reading.specs.Reading.{Reading, got}
-use Rattle.reading.specs.Bytes.{bigEndian, twoBytes, lengthAt}
+use Rattle.reading.specs.Bytes.{versionOf, bigEndian, twoBytes, lengthAt}
 use Rattle.reading.proofs.Good.{Good, good, refused, good-got, then-good, both, unless, byte-good, number-good}
 use Rattle.symbols.specs.Symbols.{Symbol, Symbols, constructorsOf}
 use Rattle.book.specs.Trees.{Tree, Trees}
@@ -38,7 +38,7 @@ binds-first bound sorts rows = by (ltb mostVariables (bound + length sorts)) ref
     by true past none = absurd (let z : _≡_ {A = ℕ} 0 1 = cc in omega arith)
     by false past none = (ltb-false _ _ past, none)
 
-module _ (S : Symbols) (bs : List ℕ) (sort e : ℕ) (fits : e ≤ length bs) where
+module _ (S : Symbols) (bs : List ℕ) (first : versionOf bs ≡ 1) (sort e : ℕ) (fits : e ≤ length bs) where
   -- between p and q stand the numbers of a tree, or of trees
   abbrev TreesAt : ℕ → ℕ → List ℕ → Type 0
   TreesAt p q xs = Laid S bs (NumbersAt S bs e p (due code 0)) (NumbersAt S bs e q (due code 0)) xs
@@ -79,7 +79,7 @@ module _ (S : Symbols) (bs : List ℕ) (sort e : ℕ) (fits : e ≤ length bs) w
   unfolding treeCodeAt branchAt treeNumbers behindTree
   code-reads tree reads zero vars done narrow p there read = good {a = Tree.exempt} (tree-code p 0 there read (omega arith))
   code-reads tree reads (suc zero) vars done narrow p there read =
-      then-good (whole-reads S bs e fits vars narrow sort (p + 1)) λ x q is. good (laid-then (tree-code p 1 there read (omega arith)) is)
+      then-good (whole-reads S bs e fits first vars narrow sort (p + 1)) λ x q is. good (laid-then (tree-code p 1 there read (omega arith)) is)
   code-reads tree reads (suc (suc zero)) vars done narrow p there read =
       then-good (branched-reads vars done narrow (p + 1)) λ x q is.
       then-good (cases-read (length vars) _ (λ sorts few r. reads (vars ++ sorts) (x ∷ done) (λ _. simp length-append few) r) (constructorsOf (getD vars x 0) S) (is .1) q) λ ts r row.
@@ -186,7 +186,7 @@ length-reads : (bs : List ℕ) (e p : ℕ) → Good (λ end q. (end ≡ p + 2 + 
 unfolding lengthAt
 length-reads bs e p = then-good (number-good bs 0 e p) λ n q is. unless _ _ (ltb e (q + n)) λ _ inside. good (omega arith, is .1, ltb-false e (q + n) inside)
 
-module _ (S : Symbols) (bs : List ℕ) (size : length bs ≤ mostBookBytes) (e : ℕ) (fits : e ≤ length bs) where
+module _ (S : Symbols) (bs : List ℕ) (edition : versionOf bs ≡ 1) (size : length bs ≤ mostBookBytes) (e : ℕ) (fits : e ≤ length bs) where
   -- between p and q, within the part, stand these rows
   record RowsRead (p q : ℕ) (xs : List ℕ) : Type 0 where
     pub rows : Laid S bs (RowsAt S bs p) (RowsAt S bs q) xs
@@ -197,7 +197,7 @@ module _ (S : Symbols) (bs : List ℕ) (size : length bs ≤ mostBookBytes) (e :
   unfolding itemAt treeRow
   item-reads x narrow p =
       then-good (length-reads bs e p) λ item q is.
-      then-good (both (tree-reads S bs (x .sort) item (omega arith) (suc mostVariables) (x .arguments) [] narrow q) (tree-extent bs S (x .sort) item (suc mostVariables) (x .arguments) [] q))
+      then-good (both (tree-reads S bs edition (x .sort) item (omega arith) (suc mostVariables) (x .arguments) [] narrow q) (tree-extent bs S (x .sort) item (suc mostVariables) (x .arguments) [] q))
       λ t r read. unless _ _ (ltb r item) λ _ all.
       let end : r ≡ item = omega (arith, read .1 .within, ltb-false r item all) in
       let tree = rw (end, is .1) at (read .0) in
@@ -250,26 +250,26 @@ part-ends S bs r over = record {
 }
 
 -- the tree part
-part-reads : (S : Symbols) (bs : List ℕ) → length bs ≤ mostBookBytes → (p : ℕ)
+part-reads : (S : Symbols) (bs : List ℕ) → versionOf bs ≡ 1 → length bs ≤ mostBookBytes → (p : ℕ)
     → Good (λ trees q. Laid S bs (PartAt S bs p) (λ more. more ≡ []) (treeRows S trees)) (treePart bs S p)
 unfolding treePart treePartBytes partBytes
-part-reads S bs size p =
+part-reads S bs edition size p =
     then-good (length-reads bs (length bs) p) λ e q is.
-    then-good (trees-read S bs size e (is .2) S (λ few. few) q (omega arith)) λ trees r read. unless _ _ (ltb r e) λ _ _. unless _ _ (ltb r (length bs)) λ _ all.
+    then-good (trees-read S bs edition size e (is .2) S (λ few. few) q (omega arith)) λ trees r read. unless _ _ (ltb r e) λ _ _. unless _ _ (ltb r (length bs)) λ _ all.
     let over : length bs ≤ r = ltb-false r (length bs) all in
     let rows = rw (is .1) at (read .rows) in
     good (rw append-nil at (laid-then (part-opens S bs p (omega arith)) (laid-then rows (part-ends S bs r over))))
 
 -- A TREE PART LAID OUT FROM ROWS, IF IT IS READ, READS BACK TO THESE ROWS.
-pub trees-back : (front ns : List ℕ) (symbols : Symbols) (trees : Trees) (q : ℕ) → FewArguments symbols
+pub trees-back : (front ns : List ℕ) (symbols : Symbols) (trees : Trees) (q : ℕ) → FewArguments symbols → versionOf (front ++ treePartBytes (aritiesOf symbols) ns) ≡ 1
     → length (front ++ treePartBytes (aritiesOf symbols) ns) ≤ mostBookBytes
     → treePart (front ++ treePartBytes (aritiesOf symbols) ns) symbols (length front) ≡ got trees q → ns ≡ treeRows symbols trees
-trees-back front ns symbols trees q few size read =
+trees-back front ns symbols trees q few edition size read =
     let bs = front ++ treePartBytes (aritiesOf symbols) ns in
-    let rows = good-got (part-reads symbols bs size (length front)) read .back few ns (drop-append-seam front (treePartBytes (aritiesOf symbols) ns)) in
+    let rows = good-got (part-reads symbols bs edition size (length front)) read .back few ns (drop-append-seam front (treePartBytes (aritiesOf symbols) ns)) in
     rows .1 ∙ ap (_++_ (treeRows symbols trees)) (rows .2) ∙ append-nil (treeRows symbols trees)
 
 -- A TREE PART THAT WAS READ IS LAID OUT FROM THE ROWS OF ITS TREES.
-pub trees-laid : (bs : List ℕ) → Bytes bs → (symbols : Symbols) (trees : Trees) (p q : ℕ) → length bs ≤ mostBookBytes
+pub trees-laid : (bs : List ℕ) → versionOf bs ≡ 1 → Bytes bs → (symbols : Symbols) (trees : Trees) (p q : ℕ) → length bs ≤ mostBookBytes
     → treePart bs symbols p ≡ got trees q → drop p bs ≡ treePartBytes (aritiesOf symbols) (treeRows symbols trees)
-trees-laid bs bytes symbols trees p q size read = rw append-nil at (good-got (part-reads symbols bs size p) read .laid bytes [] refl)
+trees-laid bs edition bytes symbols trees p q size read = rw append-nil at (good-got (part-reads symbols bs edition size p) read .laid bytes [] refl)

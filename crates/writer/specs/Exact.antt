@@ -4,6 +4,7 @@ use mathlib.Core.Path.{_≡_}
 use Prim.Native.Nat.{ℕ, _<_}
 use lib.ListN.{getD}
 use Rattle.reading.specs.Reading.{got}
+use Rattle.reading.specs.Bytes.{versionOf}
 use Rattle.book.specs.Rules.{Rules}
 use Rattle.book.specs.Admission.{readBook}
 use Rattle.writer.specs.Rows.{Rows, rowsOf}
@@ -20,10 +21,11 @@ Bytes bs = Below 256 bs
 abbrev pub Numbers : Rows → Type 0
 Numbers rows = Below 65536 (rows .symbols) × Below 65536 (rows .trees)
 
--- these bytes are an admitted book that has these rows
+-- these bytes are an admitted book, of edition 1 as the writer's are, that has these rows
 pub record BookOf (rows : Rows) (bs : List ℕ) : Type 0 where
   pub rules : Rules
   pub end : ℕ
+  pub edition : versionOf bs ≡ 1
   pub admitted : readBook bs ≡ got rules end
   pub same : rowsOf rules ≡ rows
 

@@ -26,13 +26,15 @@ unfoldable pub symbolRows : Symbols → List ℕ
 symbolRows [] = []
 symbolRows (x ∷ rest) = symbolRow x ++ symbolRows rest
 
--- an expression's codes, variables and symbols in the order written, each one number
+-- an expression's codes, variables and symbols in the order written, each one number. The rows are those of edition 1: no book of it
+-- has a shared part.
 unfoldable mutual
   pub exprNumbers : Expr → List ℕ
   exprNumbers (Expr.var x) = 0 ∷ x ∷ []
   exprNumbers (Expr.apply f es) = 1 ∷ f ∷ argumentNumbers es
   exprNumbers (Expr.choice a b) = 2 ∷ (exprNumbers a ++ exprNumbers b)
   exprNumbers Expr.fail = 3 ∷ []
+  exprNumbers (Expr.shared s a b) = []
 
   pub argumentNumbers : Exprs → List ℕ
   argumentNumbers Exprs.noExprs = []

@@ -1,7 +1,7 @@
 -- `open_question` meets its contract: it refuses a question that is too long or of another version, and reads the length else.
 use mathlib.Core.Path.{sym, ap, _∙_}
 use Rattle.reading.specs.Answer.{readingOf}
-use Rattle.book.proofs.Questions.{opened-too-long, opened-empty, opened-other, opened-length}
+use Rattle.book.proofs.Questions.{opened-too-long, opened-empty, opened-zero, opened-above, opened-length}
 use borrow.Author.Needs.{needs}
 use Rattle.book.proofs.open_question.Statement.{statement}
 use Rattle.book.proofs.open_question.Tie as tie
@@ -22,22 +22,28 @@ returns-2 : tie.Need-returns-2
 returns-2 c =
     let first = c .before .before in
     let found = sym (ap readingOf (first .version .given .1)) ∙ first .before .before .byte-at .ensures in
-    opened-other (first .before .before .before .before .before .args .question .now) (first .before .before .before .if1 .left) found (c .if2 .taken)
+    opened-zero (first .before .before .before .before .before .args .question .now) (first .before .before .before .if1 .left) found (c .if2 .taken)
+
+returns-3 : tie.Need-returns-3
+returns-3 c =
+    let first = c .before .before .before in
+    let found = sym (ap readingOf (first .version .given .1)) ∙ first .before .before .byte-at .ensures in
+    opened-above (first .before .before .before .before .before .args .question .now) (first .before .before .before .if1 .left) found (c .before .if2 .left) (c .if3 .taken)
 
 length-at-requires : tie.Need-length-at-requires
 length-at-requires c κs = search needs
 
-returns-3 : tie.Need-returns-3
-returns-3 c =
+returns-4 : tie.Need-returns-4
+returns-4 c =
     let first = c .before in
     let found = sym (ap readingOf (first .number .given .1)) ∙ first .before .before .byte-at .ensures in
     opened-empty (first .before .before .before .before .before .args .question .now) (first .before .before .before .if1 .left) found
 
-returns-4 : tie.Need-returns-4
-returns-4 c =
-    let first = c .before .before .before in
+returns-5 : tie.Need-returns-5
+returns-5 c =
+    let first = c .before .before .before .before in
     let found = sym (ap readingOf (first .version .given .1)) ∙ first .before .before .byte-at .ensures in
-    opened-length (first .before .before .before .before .before .args .question .now) (first .before .before .before .if1 .left) found (c .before .if2 .left) (c .length-at .ensures)
+    opened-length (first .before .before .before .before .before .args .question .now) (first .before .before .before .if1 .left) found (c .before .before .if2 .left) (c .before .if3 .left) (c .length-at .ensures)
 
 pub open-question-spec : {M : Type 1} → statement M
 open-question-spec =
@@ -48,6 +54,7 @@ open-question-spec =
     enum-known-number
     enum-known-version
     returns-2
-    length-at-requires
     returns-3
-    returns-4)
+    length-at-requires
+    returns-4
+    returns-5)

@@ -1,7 +1,7 @@
 -- `open_part` meets its contract: each test of the code is a clause of the refusals, in their order.
 use mathlib.Core.Path.{sym, ap, _∙_}
 use Rattle.reading.specs.Answer.{readingOf}
-use Rattle.symbols.proofs.PartWays.{opened-over, opened-empty, opened-other, opened-past, opened-none, opened-some}
+use Rattle.symbols.proofs.PartWays.{opened-over, opened-empty, opened-zero, opened-above, opened-past, opened-none, opened-some}
 use borrow.Author.Needs.{needs}
 use Rattle.symbols.proofs.part.open_part.Statement.{statement}
 use Rattle.symbols.proofs.part.open_part.Tie as tie
@@ -23,7 +23,13 @@ returns-2 : tie.Need-returns-2
 returns-2 c =
     let byte = c .before .before .before .before in
     let version = ap readingOf (sym (c .before .before .version .given .1)) ∙ byte .byte-at .ensures in
-    opened-other (byte .before .before .before .args .book .now) (byte .before .if1 .left) version (c .if2 .taken)
+    opened-zero (byte .before .before .before .args .book .now) (byte .before .if1 .left) version (c .if2 .taken)
+
+returns-3 : tie.Need-returns-3
+returns-3 c =
+    let byte = c .before .before .before .before .before in
+    let version = ap readingOf (sym (c .before .before .before .version .given .1)) ∙ byte .byte-at .ensures in
+    opened-above (byte .before .before .before .args .book .now) (byte .before .if1 .left) version (c .before .if2 .left) (c .if3 .taken)
 
 length-at-requires : tie.Need-length-at-requires
 length-at-requires c κs = search needs
@@ -34,35 +40,35 @@ enum-known-number-2 c = search needs
 enum-known-e : tie.Need-enum-known-e
 enum-known-e c = search needs
 
-returns-3 : tie.Need-returns-3
-returns-3 c =
+returns-4 : tie.Need-returns-4
+returns-4 c =
     let byte = c .before .before .before in
     let refusal = ap readingOf (sym (c .before .number .given .1)) ∙ byte .byte-at .ensures in
     opened-empty (byte .before .before .before .args .book .now) (byte .before .if1 .left) refusal
 
-returns-4 : tie.Need-returns-4
-returns-4 c =
-    let length = c .before .before .before in
-    let byte = length .before .before .before .before .before in
-    let version = ap readingOf (sym (length .before .before .before .version .given .1)) ∙ byte .byte-at .ensures in
-    let refusal = ap readingOf (sym (c .before .number2 .given .1)) ∙ length .length-at .ensures in
-    opened-past (byte .before .before .before .args .book .now) (byte .before .if1 .left) version (length .before .if2 .left) refusal
-
 returns-5 : tie.Need-returns-5
 returns-5 c =
-    let length = c .before .before .before .before in
-    let byte = length .before .before .before .before .before in
-    let version = ap readingOf (sym (length .before .before .before .version .given .1)) ∙ byte .byte-at .ensures in
-    let part = ap readingOf (sym (c .before .before .e .given .1)) ∙ length .length-at .ensures in
-    opened-none (byte .before .before .before .args .book .now) (byte .before .if1 .left) version (length .before .if2 .left) part (c .if3 .taken)
+    let length = c .before .before .before in
+    let byte = length .before .before .before .before .before .before in
+    let version = ap readingOf (sym (length .before .before .before .before .version .given .1)) ∙ byte .byte-at .ensures in
+    let refusal = ap readingOf (sym (c .before .number2 .given .1)) ∙ length .length-at .ensures in
+    opened-past (byte .before .before .before .args .book .now) (byte .before .if1 .left) version (length .before .before .if2 .left) (length .before .if3 .left) refusal
 
 returns-6 : tie.Need-returns-6
 returns-6 c =
     let length = c .before .before .before .before in
-    let byte = length .before .before .before .before .before in
-    let version = ap readingOf (sym (length .before .before .before .version .given .1)) ∙ byte .byte-at .ensures in
+    let byte = length .before .before .before .before .before .before in
+    let version = ap readingOf (sym (length .before .before .before .before .version .given .1)) ∙ byte .byte-at .ensures in
     let part = ap readingOf (sym (c .before .before .e .given .1)) ∙ length .length-at .ensures in
-    opened-some (byte .before .before .before .args .book .now) (byte .before .if1 .left) version (length .before .if2 .left) part (c .if3 .left)
+    opened-none (byte .before .before .before .args .book .now) (byte .before .if1 .left) version (length .before .before .if2 .left) (length .before .if3 .left) part (c .if4 .taken)
+
+returns-7 : tie.Need-returns-7
+returns-7 c =
+    let length = c .before .before .before .before in
+    let byte = length .before .before .before .before .before .before in
+    let version = ap readingOf (sym (length .before .before .before .before .version .given .1)) ∙ byte .byte-at .ensures in
+    let part = ap readingOf (sym (c .before .before .e .given .1)) ∙ length .length-at .ensures in
+    opened-some (byte .before .before .before .args .book .now) (byte .before .if1 .left) version (length .before .before .if2 .left) (length .before .if3 .left) part (c .if4 .left)
 
 pub open-part-spec : {M : Type 1} → statement M
 open-part-spec =
@@ -73,10 +79,11 @@ open-part-spec =
     enum-known-number
     enum-known-version
     returns-2
+    returns-3
     length-at-requires
     enum-known-number-2
     enum-known-e
-    returns-3
     returns-4
     returns-5
-    returns-6)
+    returns-6
+    returns-7)
