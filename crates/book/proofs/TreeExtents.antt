@@ -43,7 +43,7 @@ module _ (bs : List ℕ) (S : Symbols) (sort e : ℕ) where
   code-extent : (tree : List ℕ → List ℕ → ℕ → Reading Tree) → TreeExtents tree → (c : ℕ) (vars done : List ℕ) (p : ℕ) → p < e
       → Good (TreeExtent treeBytes e p) (treeCodeAt bs S sort e tree c vars done p)
   unfolding treeCodeAt branchAt wholeExprAt treeBytes
-  code-extent tree reads zero vars done p h = good {a = Tree.exempt} {p = p + 1} (record { size = refl; within = omega arith })
+  code-extent tree reads zero vars done p h = unless _ _ _ λ _ _. good {a = Tree.exempt} {p = p + 1} (record { size = refl; within = omega arith })
   code-extent tree reads (suc zero) vars done p h =
       then-good {P = λ x q. (q ≡ p + 1 + exprBytes x) × (q ≤ e)}
       (then-good (whole-extent bs 0 S e vars sort (p + 1)) λ x q is. good (is .size, is .within)) λ x q is.

@@ -3,14 +3,16 @@ use mathlib.Core.List.{List, _∷_, _++_}
 use mathlib.Core.Path.{_≡_, refl, sym, ap, ap₂, _∙_}
 use Prim.Native.Nat.{ℕ, zero, suc, _+_, _≤_, _<_}
 use native.Mathlib.Omega.{arith}
+use borrow.Author.Tests.{eq-eqb, ne-eqb}
 use lib.ListN.{getD, set}
 use Rattle.reading.specs.Reading.{Reading, got, refusal}
+use Rattle.reading.specs.Bytes.{versionOf}
 use Rattle.reading.specs.Answer.{readingOf, keeping, nothing}
 use Rattle.reading.specs.declared.Reading.{Reading as Answered}
 use Rattle.reading.specs.declared.Reading.the-variants.{Got, Refusal}
 use Rattle.reading.proofs.AtPlace.{byte-past, byte-got}
 use Rattle.reading.proofs.Good.{good-got}
-use Rattle.reading.proofs.Keeping.{kept-got, kept-refusal, then-got, then-refusal}
+use Rattle.reading.proofs.Keeping.{kept-got, kept-refusal, then-got, then-refusal, passed, failed-test}
 use Rattle.symbols.specs.Symbols.{Symbols, constructorsOf}
 use Rattle.expressions.specs.ExpressionAt.{leftOf, wholeAt, wholeExprAt}
 use Rattle.expressions.proofs.Extents.{whole-extent}
@@ -68,9 +70,14 @@ module _ (bs : List ℕ) (S : Symbols) (sort e : ℕ) (vars done : List ℕ) (p 
         unknown (suc (suc zero)) l = absurd (omega arith)
         unknown (suc (suc (suc c))) l = refl
 
-    pub exempt-read : getD bs p 0 ≡ 0 → Told p (got 0 (p + 1)) (tree (suc depth)) was (set was p (p + 1))
+    -- an exempt, not in edition 2
+    pub exempt-refused : (is : List ℕ) → getD bs p 0 ≡ 0 → versionOf bs ≡ 2 → Told p (refusal 4 p) (tree (suc depth)) was is
+    unfolding treeCodeAt
+    exempt-refused is c second = told-refused p was is (by-code depth h ∙ rw c (failed-test _ _ _ (eq-eqb (versionOf bs) 2 second)))
+
+    pub exempt-read : getD bs p 0 ≡ 0 → (versionOf bs ≡ 2 → ⊥) → Told p (got 0 (p + 1)) (tree (suc depth)) was (set was p (p + 1))
     unfolding treeCodeAt markTree
-    exempt-read c = told-read p was _ exempt (p + 1) (by-code depth h ∙ rw c) refl
+    exempt-read c first = told-read p was _ exempt (p + 1) (by-code depth h ∙ rw c (passed _ _ (ne-eqb (versionOf bs) 2 first))) refl
 
     -- a rule whose expression was answered by `r`
     pub rule-read : (r : Answered) → getD bs p 0 ≡ 1 → readingOf r ≡ keeping leftOf (wholeAt bs 0 S e vars sort (p + 1))

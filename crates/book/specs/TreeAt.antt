@@ -6,7 +6,7 @@ use lib.Dec.{leb, ltb, eqb}
 use lib.ListN.{length, getD}
 use Rattle.limits.specs.Sizes.{mostVariables}
 use Rattle.reading.specs.Reading.{Reading, got, refusal, _then_, refuse_at_if_else_}
-use Rattle.reading.specs.Bytes.{byteAt, lengthAt}
+use Rattle.reading.specs.Bytes.{versionOf, byteAt, lengthAt}
 use Rattle.symbols.specs.Symbols.{Symbol, Symbols, constructorsOf}
 use Rattle.expressions.specs.ExpressionAt.{wholeExprAt}
 use Rattle.book.specs.Trees.{Tree, Trees, exempt, rule, branch, noTrees, moreTrees}
@@ -48,9 +48,12 @@ module _ (bs : List ℕ) (symbols : Symbols) (sort e : ℕ) where
       treesWith (λ sorts r. tree (vars ++ sorts) (x ∷ done) r) (constructorsOf (getD vars x 0) symbols) q then λ ts t.
       got (branch x ts) t
 
-  -- by the code that stands at p; "a rule has its operation's result sort"; "unknown code (place: its first byte)"
+  -- by the code that stands at p; "a rule has its operation's result sort"; "unknown code (place: its first byte)"; "Version 2 books
+  -- with tree code 0 are refused", with "4 at that code"
   unfoldable pub treeCodeAt : (List ℕ → List ℕ → ℕ → Reading Tree) → ℕ → List ℕ → List ℕ → ℕ → Reading Tree
-  treeCodeAt tree zero vars done p = got exempt (p + 1)
+  treeCodeAt tree zero vars done p =
+      refuse 4 at p if eqb (versionOf bs) 2 else λ _.
+      got exempt (p + 1)
   treeCodeAt tree (suc zero) vars done p =
       wholeExprAt bs 0 symbols e vars sort (p + 1) then λ x q.
       got (rule x) q

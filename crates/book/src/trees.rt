@@ -168,6 +168,12 @@ fn read_tree(
         };
     }
     if code == 0 {
+        if byte(book, 0) == 2 {
+            return Reading::Refusal {
+                number: 4,
+                place: p,
+            };
+        }
         let r = Reading::Got {
             value: 0,
             next: p + 1,

@@ -94,7 +94,7 @@ module _ (bs : List ℕ) {S : Symbols} {s : ℕ} (e : ℕ) {P : Tree → List �
   -- a tree, by its code
   treeCode-reads : (tree : List ℕ → List ℕ → ℕ → Reading Tree) → Reads tree → (c : ℕ) → Reads (treeCodeAt bs S s e tree c)
   unfolding treeCodeAt
-  treeCode-reads tree reads zero vars done p = good (each .exempt vars)
+  treeCode-reads tree reads zero vars done p = unless _ _ _ λ _ _. good (each .exempt vars)
   treeCode-reads tree reads (suc zero) vars done p =
       then-good (both (whole-reads bs 0 e (expressions-fit S) vars s _) (whole-reads bs 0 e (expressions-bound S) vars s _)) λ x q is.
       good (each .rule vars x (is .0 .1) (is .1 .1))

@@ -77,7 +77,7 @@ module _ (S : Symbols) (bs : List ℕ) (first : versionOf bs ≡ 1) (sort e : �
   code-reads : (tree : List ℕ → List ℕ → ℕ → Reading Tree) → Reads tree → (c : ℕ) (vars done : List ℕ) → Narrow S vars → (p : ℕ)
       → p < e → c ≡ getD bs p 0 → Good (λ t q. TreesAt p q (treeNumbers t)) (treeCodeAt bs S sort e tree c vars done p)
   unfolding treeCodeAt branchAt treeNumbers behindTree
-  code-reads tree reads zero vars done narrow p there read = good {a = Tree.exempt} (tree-code p 0 there read (omega arith))
+  code-reads tree reads zero vars done narrow p there read = unless _ _ _ λ _ _. good {a = Tree.exempt} (tree-code p 0 there read (omega arith))
   code-reads tree reads (suc zero) vars done narrow p there read =
       then-good (whole-reads S bs e fits first vars narrow sort (p + 1)) λ x q is. good (laid-then (tree-code p 1 there read (omega arith)) is)
   code-reads tree reads (suc (suc zero)) vars done narrow p there read =

@@ -20,7 +20,7 @@ use Rattle.book.proofs.Paths.{Flags, flags-more}
 use Rattle.book.proofs.Branches.{Fitting, branch-fits, flags-some}
 use Rattle.book.proofs.TreeExtents.{tree-extent, row-extent}
 use Rattle.book.proofs.TreeTold.{inside, told-at, branch-told}
-use Rattle.book.proofs.TreeWays.{no-depth, no-code, unknown-code, exempt-read, rule-read, branch-refused}
+use Rattle.book.proofs.TreeWays.{no-depth, no-code, unknown-code, exempt-refused, exempt-read, rule-read, branch-refused}
 use borrow.Fn.Kinds.{In}
 use borrow.Fn.PlainCycle.{Measures, is, falls, and}
 use Rattle.book.proofs.trees.read_cases.Reads as read-cases
@@ -241,19 +241,31 @@ read-tree-returns-3 t c =
     λ done flags. told-at (a .book .now) S (a .sort) (a .e) (a .depth) (varsOf (a .t8)) done (a .p) (coded .before .before .if1 .left) refl refl
     (unknown-code (a .book .now) S (a .sort) (a .e) (varsOf (a .t8)) done (a .p) (a .depth - 1) (coded .before .if2 .left) (a .ends .now) (a .ends .now) (omega (arith, coded .byte .ensures)))
 
-read-tree-add-t23 : (t : ℕ) → read-tree-lts.Need-add-t23 (read-tree-claims t) (read-tree-at t) read-tree.Post
-read-tree-add-t23 t c = search needs
-
-read-tree-mark-requires : (t : ℕ) → read-tree-lts.Need-mark-requires (read-tree-claims t) (read-tree-at t) read-tree.Post
-read-tree-mark-requires t c κs = search needs
+read-tree-byte-requires-2 : (t : ℕ) → read-tree-lts.Need-byte-requires-2 (read-tree-claims t) (read-tree-at t) read-tree.Post
+read-tree-byte-requires-2 t c κs = search needs
 
 read-tree-returns-4 : (t : ℕ) → read-tree-lts.Need-returns-4 (read-tree-claims t) (read-tree-at t) read-tree.Post
 read-tree-returns-4 t c =
     let coded = c .before .before .before .before in
     let a = coded .before .before .before .before .before .args in
     let S = symbolsIn (a .book .now) (a .at .now) in
+    λ done flags. told-at (a .book .now) S (a .sort) (a .e) (a .depth) (varsOf (a .t8)) done (a .p) (coded .before .before .if1 .left) refl refl
+    (exempt-refused (a .book .now) S (a .sort) (a .e) (varsOf (a .t8)) done (a .p) (a .depth - 1) (coded .before .if2 .left) (a .ends .now) (a .ends .now)
+    (omega (arith, coded .byte .ensures)) (omega (arith, c .before .byte2 .ensures)))
+
+read-tree-add-t25 : (t : ℕ) → read-tree-lts.Need-add-t25 (read-tree-claims t) (read-tree-at t) read-tree.Post
+read-tree-add-t25 t c = search needs
+
+read-tree-mark-requires : (t : ℕ) → read-tree-lts.Need-mark-requires (read-tree-claims t) (read-tree-at t) read-tree.Post
+read-tree-mark-requires t c κs = search needs
+
+read-tree-returns-5 : (t : ℕ) → read-tree-lts.Need-returns-5 (read-tree-claims t) (read-tree-at t) read-tree.Post
+read-tree-returns-5 t c =
+    let coded = c .before .before .before .before .before .before in
+    let a = coded .before .before .before .before .before .args in
+    let S = symbolsIn (a .book .now) (a .at .now) in
     λ done flags. told-at (a .book .now) S (a .sort) (a .e) (a .depth) (varsOf (a .t8)) done (a .p) (coded .before .before .if1 .left) (c .mark .ensures .0) (c .mark .ensures .1)
-    (exempt-read (a .book .now) S (a .sort) (a .e) (varsOf (a .t8)) done (a .p) (a .depth - 1) (coded .before .if2 .left) (a .ends .now) (omega (arith, coded .byte .ensures)))
+    (exempt-read (a .book .now) S (a .sort) (a .e) (varsOf (a .t8)) done (a .p) (a .depth - 1) (coded .before .if2 .left) (a .ends .now) (omega (arith, coded .byte .ensures)) (omega (arith, c .before .before .before .byte2 .ensures)))
 
 read-tree-add-read-rule : (t : ℕ) → read-tree-lts.Need-add-read-rule (read-tree-claims t) (read-tree-at t) read-tree.Post
 read-tree-add-read-rule t c = search needs
@@ -268,8 +280,8 @@ read-tree-mark-requires-2 t c κs =
     let whole = whole-extent (a .book .now) 0 (symbolsIn (a .book .now) (a .at .now)) (a .e) (varsOf (a .t8)) (a .sort) (a .p + 1) in
     (omega arith, inside leftOf (read .read-rule .result) whole (λ x q is. omega (arith, is .within)) (read .read-rule .ensures))
 
-read-tree-returns-5 : (t : ℕ) → read-tree-lts.Need-returns-5 (read-tree-claims t) (read-tree-at t) read-tree.Post
-read-tree-returns-5 t c =
+read-tree-returns-6 : (t : ℕ) → read-tree-lts.Need-returns-6 (read-tree-claims t) (read-tree-at t) read-tree.Post
+read-tree-returns-6 t c =
     let read = c .before .before in
     let coded = read .before .before .before .before in
     let a = coded .before .before .before .before .before .args in
@@ -342,8 +354,8 @@ read-tree-mark-requires-3 t c κs =
       inside nothing (cases .read-cases .result) row (λ x q is. omega (arith, is .within, s .pre .1 .2)) (cases .read-cases .ensures (some .0) (some .1) .0),
     )
 
-read-tree-returns-6 : (t : ℕ) → read-tree-lts.Need-returns-6 (read-tree-claims t) (read-tree-at t) read-tree.Post
-read-tree-returns-6 t c =
+read-tree-returns-7 : (t : ℕ) → read-tree-lts.Need-returns-7 (read-tree-claims t) (read-tree-at t) read-tree.Post
+read-tree-returns-7 t c =
     let read = c .before .before .before in
     let coded = read .before .before .before .before in
     let a = coded .before .before .before .before .before .args in
@@ -352,9 +364,9 @@ read-tree-returns-6 t c =
     (branch-refused (a .book .now) S (a .sort) (a .e) (varsOf (a .t8)) done (a .p) (a .depth - 1) (coded .before .if2 .left) (a .ends .now) (a .ends .now)
     (omega (arith, coded .byte .ensures)) (sym (ap readingOf (c .before .number .given .1)) ∙ read .read-branched .ensures (a .sort) done flags))
 
-read-tree-returns-7 : (t : ℕ) → read-tree-lts.Need-returns-7 (read-tree-claims t) (read-tree-at t) read-tree.Post
+read-tree-returns-8 : (t : ℕ) → read-tree-lts.Need-returns-8 (read-tree-claims t) (read-tree-at t) read-tree.Post
 unfolding Branched
-read-tree-returns-7 t c =
+read-tree-returns-8 t c =
     let cases = c .before .before .read-cases in
     let path = c .before .before .before .before .branched in
     let chosen = c .before .before .before .before .before .before .before in
@@ -401,13 +413,15 @@ pub +read-cases+read-tree-spec : {M : Type 1} → statement M
     (read-tree-returns-2 t)
     (read-tree-byte-requires t)
     (read-tree-returns-3 t)
-    (read-tree-add-t23 t)
-    (read-tree-mark-requires t)
+    (read-tree-byte-requires-2 t)
     (read-tree-returns-4 t)
+    (read-tree-add-t25 t)
+    (read-tree-mark-requires t)
+    (read-tree-returns-5 t)
     (read-tree-add-read-rule t)
     (read-tree-read-rule-requires t)
     (read-tree-mark-requires-2 t)
-    (read-tree-returns-5 t)
+    (read-tree-returns-6 t)
     (read-tree-add-read-branched t)
     (read-tree-read-branched-requires t)
     (read-tree-enum-known-number t)
@@ -417,5 +431,5 @@ pub +read-cases+read-tree-spec : {M : Type 1} → statement M
     (read-tree-sub-read-cases t)
     (read-tree-read-cases-requires t)
     (read-tree-mark-requires-3 t)
-    (read-tree-returns-6 t)
     (read-tree-returns-7 t)
+    (read-tree-returns-8 t)

@@ -1,0 +1,4 @@
+pub mod Written
+pub mod Converted
+pub mod Convert
+pub mod Same
