@@ -20,7 +20,7 @@ use Rattle.machine.specs.Walk.{Found}
 use Rattle.machine.specs.Walk as PlainWalk
 use Rattle.machine.specs.Turn as Plain
 use Rattle.machine.specs.Turn.{Rooms}
-use Rattle.rewriting.proofs.Lists.{All}
+use Rattle.rewriting.specs.Lists.{All}
 use Rattle.rewriting.proofs.Steers.{Lawful}
 use Rattle.alike.specs.Shorten.{Following}
 use Rattle.alike.specs.Asked.{Answer}

@@ -26,15 +26,20 @@ use Rattle.machine.specs.Turn as Plain
 use Rattle.machine.specs.Turn.{Rooms}
 use Rattle.rewriting.specs.Scoped.{Scoped}
 use Rattle.rewriting.specs.Rewriting.{Leads, Value}
-use Rattle.rewriting.proofs.Heaps.{there, apply≢fail, InRange, grown}
+use Rattle.rewriting.specs.Heaps.{InRange}
+use Rattle.rewriting.proofs.Heaps.{there, apply≢fail, grown}
 use Rattle.rewriting.proofs.Kept.{place-choices}
-use Rattle.rewriting.proofs.Lists.{All, none, more, all-at, all-anywhere}
+use Rattle.rewriting.specs.Lists.{All, none, more}
+use Rattle.rewriting.proofs.Lists.{all-at, all-anywhere}
 use Rattle.rewriting.proofs.Steers.{Steerable, Lawful}
-use Rattle.meaning.proofs.Finite.{Finite, finite-arguments, rewrite-finite}
-use Rattle.meaning.proofs.Follows.{NoForward, follow-leads, follow-ends}
+use Rattle.rewriting.specs.Paths.{Finite}
+use Rattle.meaning.proofs.Finite.{finite-arguments, rewrite-finite}
+use Rattle.rewriting.specs.Heaps.{NoForward}
+use Rattle.meaning.proofs.Follows.{follow-leads, follow-ends}
 use Rattle.meaning.specs.Demand3.{question}
 use Rattle.meaning.proofs.AllTurns.{Had, loaded-good}
-use Rattle.meaning.proofs.Turns.{Good, Fit, Kept, turn-kept}
+use Rattle.meaning.specs.Entries.{Fit}
+use Rattle.meaning.proofs.Turns.{Good, Kept, turn-kept}
 use Rattle.meaning.proofs.Walks.{Stepwise, Finds, walk-right}
 use Rattle.alike.specs.Shorten.{Following}
 use Rattle.alike.specs.Asked as Asked

@@ -21,7 +21,7 @@ use Rattle.machine.specs.Answers.{Answer as PlainAnswer}
 use Rattle.machine.specs.Turn as Plain
 use Rattle.machine.specs.Turn.{Rooms}
 use Rattle.rewriting.specs.Rewriting.{Value}
-use Rattle.rewriting.proofs.Lists.{All}
+use Rattle.rewriting.specs.Lists.{All}
 use Rattle.rewriting.proofs.Steers.{Lawful}
 use Rattle.rewriting.proofs.Update.{update-same}
 use Rattle.alike.specs.Shorten.{Following}

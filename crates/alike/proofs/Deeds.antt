@@ -12,8 +12,8 @@ use Rattle.machine.specs.Made.{Placed, place, rewritten}
 use Rattle.rewriting.specs.Scoped.{Scoped}
 use Rattle.rewriting.specs.Rewriting.{Leads}
 use Rattle.rewriting.proofs.Heaps.{grown, grown-length}
-use Rattle.rewriting.proofs.Lists.{All}
-use Rattle.meaning.proofs.Follows.{NoForward}
+use Rattle.rewriting.specs.Lists.{All}
+use Rattle.rewriting.specs.Heaps.{NoForward}
 use Rattle.alike.proofs.Pairs.{Both, none, more, both-map, both-set, both-length}
 use Rattle.alike.proofs.Alike.{Pairing, NodeAlike, node-map, Arrows, Alike}
 use Rattle.alike.proofs.Grown.{Grows, old, new, top, Tops, arrows-grown, arrows-new, alike-grown}

@@ -8,8 +8,8 @@ use lib.ListN.{length}
 use Rattle.nodes.specs.Nodes.{Node, fail, forward, Heap, at}
 use Rattle.rewriting.specs.Rewriting.{Leads}
 use Rattle.rewriting.proofs.Heaps.{there, forward≢fail}
-use Rattle.meaning.proofs.Finite.{In, first, later}
-use Rattle.meaning.proofs.Follows.{NoForward}
+use Rattle.rewriting.specs.Paths.{In, first, later}
+use Rattle.rewriting.specs.Heaps.{NoForward}
 use Rattle.alike.specs.Reuse.{arrowsOf, Marks, movedTo, redirected, keptBy, movedDown}
 use Rattle.alike.proofs.Pairs.{Both, none, more}
 use Rattle.alike.proofs.Alike.{Pairing, NodeAlike, Arrows, Alike}

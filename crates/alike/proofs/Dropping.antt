@@ -8,8 +8,8 @@ use lib.ListN.{length, length-map}
 use Rattle.limits.specs.Lent.{Entry as PlainEntry}
 use Rattle.nodes.specs.Nodes.{Heap, at}
 use Rattle.machine.specs.Turn as Plain
-use Rattle.rewriting.proofs.Lists.{All, none, more}
-use Rattle.meaning.proofs.Finite.{In, first, later}
+use Rattle.rewriting.specs.Lists.{All, none, more}
+use Rattle.rewriting.specs.Paths.{In, first, later}
 use Rattle.alike.specs.Reuse.{Marks, arrowsOf, reached, movedTo, keptBy, movedDown}
 use Rattle.alike.specs.Asked.{Entry}
 use Rattle.alike.specs.Turning.{State, moved, dropped}

@@ -6,10 +6,11 @@ use lib.ListN.{length}
 use Rattle.nodes.specs.Nodes.{Node, fail, forward, Heap, at}
 use Rattle.rewriting.specs.Rewriting.{Leads}
 use Rattle.rewriting.proofs.Heaps.{grown, grown-at}
-use Rattle.rewriting.proofs.Lists.{All, none, more}
-use Rattle.meaning.proofs.Finite.{Finite, finite, target, finite-arguments}
+use Rattle.rewriting.specs.Lists.{All, none, more}
+use Rattle.rewriting.specs.Paths.{Finite, finite, target}
+use Rattle.meaning.proofs.Finite.{finite-arguments}
 use Rattle.meaning.proofs.PathsEnd.{leads-finite, finite-sides}
-use Rattle.meaning.proofs.Follows.{NoForward}
+use Rattle.rewriting.specs.Heaps.{NoForward}
 use Rattle.alike.proofs.Pairs.{Both}
 use Rattle.alike.proofs.Alike.{Pairing, NodeAlike, Arrows, Alike}
 use Rattle.alike.proofs.Grown.{leads-on, leads-grown}

@@ -15,7 +15,8 @@ use Rattle.limits.specs.Decisions.{Decisions}
 use Rattle.limits.specs.Lent.{Entry as PlainEntry}
 use Rattle.nodes.specs.Nodes.{Heap}
 use Rattle.machine.specs.Answers.{Answer as PlainAnswer}
-use Rattle.rewriting.proofs.Lists.{firsts, length-firsts, getD-firsts}
+use Rattle.rewriting.specs.Lists.{firsts}
+use Rattle.rewriting.proofs.Lists.{length-firsts, getD-firsts}
 use Rattle.alike.specs.Asked.{Entry, Answer}
 use Rattle.alike.proofs.Alike.{Pairing, Arrows}
 

@@ -20,7 +20,8 @@ use Rattle.rewriting.specs.Scoped.{Scoped}
 use Rattle.rewriting.specs.Rewriting.{Leads, Value}
 use Rattle.rewriting.proofs.Heaps.{there, forward≢fail}
 use Rattle.rewriting.proofs.Kept.{make-choices}
-use Rattle.rewriting.proofs.Lists.{All, none, more, all-at, all-append}
+use Rattle.rewriting.specs.Lists.{All, none, more}
+use Rattle.rewriting.proofs.Lists.{all-at, all-append}
 use Rattle.rewriting.proofs.Update.{update, update-same, update-other}
 use Rattle.meaning.specs.Demand3.{question}
 use Rattle.meaning.specs.Readings.{CanBe}

@@ -8,9 +8,10 @@ use lib.ListN.{length, length-append}
 use Rattle.expressions.specs.Expressions.{Expr, Exprs}
 use Rattle.machine.specs.Made.{Made, MadeRow, Placed, make, makeRow, place}
 use Rattle.rewriting.specs.Scoped.{Scoped, ScopedRow}
-use Rattle.rewriting.proofs.Lists.{All, all-append, length-behind}
+use Rattle.rewriting.specs.Lists.{All}
+use Rattle.rewriting.proofs.Lists.{all-append, length-behind}
 use Rattle.rewriting.proofs.Kept.{make-choices, makeRow-choices, place-choices}
-use Rattle.meaning.proofs.Follows.{NoForward}
+use Rattle.rewriting.specs.Heaps.{NoForward}
 use Rattle.alike.proofs.Pairs.{Both, none, more, both-at, both-append, both-length}
 use Rattle.alike.proofs.Alike.{Pairing, NodeAlike}
 

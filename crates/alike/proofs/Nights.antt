@@ -17,7 +17,8 @@ use Rattle.nodes.specs.Nodes.{Heap}
 use Rattle.machine.specs.Answers as PlainAnswers
 use Rattle.machine.specs.Run.{over}
 use Rattle.machine.specs.Turn as Plain
-use Rattle.rewriting.proofs.Lists.{All, none, more, all-at, all-map}
+use Rattle.rewriting.specs.Lists.{All, none, more}
+use Rattle.rewriting.proofs.Lists.{all-at, all-map}
 use Rattle.sorts.proofs.HeapsFit.{Sorted}
 use Rattle.sorts.proofs.ReadingFits.{book-fits}
 use Rattle.meaning.proofs.Refusals.{book-refused, question-refused}

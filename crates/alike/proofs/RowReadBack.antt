@@ -9,7 +9,7 @@ use Rattle.limits.specs.Sizes.{mostChoices}
 use Rattle.reading.specs.Bytes.{twoBytes}
 use Rattle.machine.specs.Answers as Plain
 use Rattle.machine.specs.Answers.{decisionNumbers, twoBytesEach}
-use Rattle.rewriting.proofs.Lists.{All, none, more}
+use Rattle.rewriting.specs.Lists.{All, none, more}
 use Rattle.meaning.specs.Records.{numbersIn}
 use Rattle.meaning.proofs.ReadBack.{two-back, numbers-back, answer-back}
 use Rattle.alike.specs.Asked.{Answer, asking, recordBytes, recordsBytes, answerBytes}

@@ -10,7 +10,7 @@ use Rattle.limits.specs.Sizes.{mostChoices}
 use Rattle.limits.specs.Lent.{Entry as PlainEntry}
 use Rattle.nodes.specs.Nodes.{Heap, at}
 use Rattle.machine.specs.Turn as Plain
-use Rattle.rewriting.proofs.Lists.{All, none, more}
+use Rattle.rewriting.specs.Lists.{All, none, more}
 use Rattle.rewriting.proofs.Update.{update, update-same, update-other}
 use Rattle.alike.specs.Asked.{Entry}
 use Rattle.alike.specs.Turning as Later

@@ -22,13 +22,16 @@ use Rattle.machine.specs.Turn as Plain
 use Rattle.rewriting.specs.Rewriting.{Leads, Value}
 use Rattle.rewriting.proofs.Heaps.{there, apply≢fail}
 use Rattle.rewriting.proofs.Kept.{place-choices}
-use Rattle.rewriting.proofs.Lists.{All, none, more, firsts}
+use Rattle.rewriting.specs.Lists.{All, none, more, firsts}
 use Rattle.rewriting.proofs.Steers.{Lawful}
 use Rattle.rewriting.proofs.Update.{update}
-use Rattle.meaning.proofs.Finite.{Finite, rewrite-finite}
+use Rattle.rewriting.specs.Paths.{Finite}
+use Rattle.meaning.proofs.Finite.{rewrite-finite}
 use Rattle.meaning.proofs.PathsEnd.{leads-finite}
-use Rattle.meaning.proofs.Follows.{NoForward, follow-leads}
-use Rattle.meaning.proofs.Turns.{Good, Fit}
+use Rattle.rewriting.specs.Heaps.{NoForward}
+use Rattle.meaning.proofs.Follows.{follow-leads}
+use Rattle.meaning.specs.Entries.{Fit}
+use Rattle.meaning.proofs.Turns.{Good}
 use Rattle.meaning.proofs.Walks.{Stepwise, Finds, walk-right}
 use Rattle.alike.specs.Shorten.{Following}
 use Rattle.alike.specs.Walking.{walk}

@@ -30,7 +30,7 @@ use Rattle.meaning.specs.Partial.{Part, bot, _⊑_}
 use Rattle.meaning.specs.Readings.{Side, sideOf, Reads, whole}
 use Rattle.meaning.proofs.Failed.{Stops}
 use Rattle.meaning.proofs.Entries.{canBe-leads, canBe-fail, canBe-dead}
-use Rattle.meaning.proofs.Finite.{Finite}
+use Rattle.rewriting.specs.Paths.{Finite}
 use Rattle.meaning.proofs.PathsEnd.{leads-finite}
 use Rattle.meaning.proofs.Follows.{follow-leads, follow-ends}
 use Rattle.meaning.proofs.Walks.{Stepwise, Finds, walk-right}

@@ -22,7 +22,7 @@ use Rattle.machine.specs.Made.{rewritten}
 use Rattle.machine.specs.Answers.{Answer}
 use Rattle.machine.specs.Turn.{Rooms, State, Turned, Ended, turned, entry, turn, turns}
 use Rattle.rewriting.specs.Rewriting.{Leads, Value}
-use Rattle.rewriting.proofs.Lists.{All}
+use Rattle.rewriting.specs.Lists.{All}
 use Rattle.rewriting.proofs.Heaps.{grown-old}
 use Rattle.rewriting.proofs.Kept.{rewritten-longer}
 use Rattle.rewriting.proofs.Steers.{Lawful}
@@ -35,7 +35,8 @@ use Rattle.meaning.proofs.Failed.{stopped}
 use Rattle.meaning.proofs.Entries.{canBe-leads, canBe-value}
 use Rattle.meaning.proofs.Follows.{follow-leads}
 use Rattle.meaning.proofs.Members.{Any, first, later, any-right}
-use Rattle.meaning.proofs.Turns.{asSide, sides, Fit, Good, Holds, Kept, turn-kept}
+use Rattle.meaning.specs.Entries.{Fit}
+use Rattle.meaning.proofs.Turns.{asSide, sides, Good, Holds, Kept, turn-kept}
 use Rattle.meaning.proofs.AllTurns.{found}
 use Rattle.run.proofs.OnTheRow.{turns-none, turns-spent, turns-refused, turns-whole}
 use Rattle.fuel.proofs.Live.{Live, Still, size, sidesOf, partsOf, live-reads, live-can, live-of, live-rewritten, live-failed}

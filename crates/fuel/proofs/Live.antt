@@ -17,15 +17,17 @@ use Rattle.nodes.specs.Steps.{failed}
 use Rattle.machine.specs.Made.{place, rewritten}
 use Rattle.rewriting.specs.Rewriting.{Leads, Ends, Value}
 use Rattle.rewriting.proofs.Lists.{sum, sum-set}
-use Rattle.rewriting.proofs.Heaps.{there, apply≢fail, choice≢fail, forward≢fail, ChoicesBelow}
+use Rattle.rewriting.specs.Heaps.{ChoicesBelow}
+use Rattle.rewriting.proofs.Heaps.{there, apply≢fail, choice≢fail, forward≢fail}
 use Rattle.meaning.specs.Partial.{Part, bot, _⊑_, Hits, Gives}
 use Rattle.meaning.specs.Readings.{Side, sideOf, AgreesIn, Reads, whole}
 use Rattle.meaning.proofs.Order.{⊑-refl, ⊑-trans, ⊑-of-eq, ⊑-whole, ⊑ˡ-refl, gives-mono, agrees-choice, agrees-forward, agrees-fail}
 use Rattle.meaning.proofs.Rewritten.{hits-ends}
-use Rattle.meaning.proofs.Finite.{Arrow, Finite}
+use Rattle.rewriting.specs.Paths.{Arrow, Finite}
 use Rattle.meaning.proofs.Measure.{read-at, read-set}
 use Rattle.meaning.proofs.Realize.{partAt, sideAt, sizeAt, Marked, replaced, sized}
-use Rattle.meaning.proofs.Turns.{asSide, sides, Can, Fit}
+use Rattle.meaning.specs.Entries.{Fit}
+use Rattle.meaning.proofs.Turns.{asSide, sides, Can}
 use Rattle.fuel.proofs.Wanted.{whole-something}
 
 -- ---- a live entry

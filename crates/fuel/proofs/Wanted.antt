@@ -16,7 +16,8 @@ use Rattle.nodes.specs.Forwards.{follow}
 use Rattle.machine.specs.FirstLook.{Seen, someFail, firstChoice, neither, firstLook}
 use Rattle.machine.specs.Walk.{Slot, Found, arrowAt, slotsOf, decide, children, construct, steer, steerAt, walkIn, walk}
 use Rattle.rewriting.specs.Rewriting.{Leads, Value, Values, con, moreValues}
-use Rattle.rewriting.proofs.Lists.{All, more, getD-mapped}
+use Rattle.rewriting.specs.Lists.{All, more}
+use Rattle.rewriting.proofs.Lists.{getD-mapped}
 use Rattle.meaning.specs.Partial.{Part, bot, toList, ofList, _⊑_, _⊑*_, more⊑, Hits}
 use Rattle.meaning.specs.Readings.{Side, OperationGives, Reads, whole, wholes}
 use Rattle.meaning.proofs.Order.{⊑-trans, con⊑-same, con≢bot, _⊑ˡ_, ⊑ˡ-refl, ⊑ˡ-length, append-mono, toList-mono, toList-ofList}

@@ -16,7 +16,8 @@ use Rattle.nodes.specs.Nodes.{Heap}
 use Rattle.machine.specs.Answers.{Answer, answerBytes}
 use Rattle.machine.specs.Turn.{Rooms, State, Turned, Ended, turn, after, turns, loaded}
 use Rattle.rewriting.specs.Rewriting.{Value}
-use Rattle.rewriting.proofs.Lists.{All, all-at}
+use Rattle.rewriting.specs.Lists.{All}
+use Rattle.rewriting.proofs.Lists.{all-at}
 use Rattle.rewriting.proofs.Steers.{Lawful}
 use Rattle.sorts.proofs.HeapsFit.{Sorted}
 use Rattle.meaning.specs.Demand3.{flatten, Reachable, Apart, answerAt}
@@ -24,7 +25,7 @@ use Rattle.meaning.proofs.Members.{Any, any-at, first, later, Pairwise, pairwis
 use Rattle.meaning.proofs.Turns.{apart-symmetric, ofEntries, ofAnswers, Holds, Good, Kept, turn-kept}
 use Rattle.meaning.proofs.AllTurns.{Had, reached, loaded-good, found}
 use Rattle.meaning.proofs.Demand3.{lawful, closed, few, sorted}
-use Rattle.sound.specs.Left.{afresh}
+use Rattle.accepted.specs.LeftIn.{afresh}
 use Rattle.going.specs.AllCalls.{Calls, begun, called, AllAnswered}
 use Rattle.going.proofs.OtherAnswers.{onTop, Alike, turn-alike}
 

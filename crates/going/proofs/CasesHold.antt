@@ -3,9 +3,9 @@ use mathlib.Core.Path.{refl}
 use Rattle.limits.specs.Decisions as Decisions
 use Rattle.nodes.specs.Numbers as Numbers
 use Rattle.rewriting.proofs.Lists as Lists
-use Rattle.sound.specs.Read as Read
-use Rattle.sound.specs.Faults as Faults
-use Rattle.sound.specs.GoOn as GoOn
+use Rattle.accepted.specs.Read as Read
+use Rattle.accepted.specs.Faults as Faults
+use Rattle.accepted.specs.GoOn as GoOn
 use Rattle.machine.specs.Cases.{smallBook, D}
 use Rattle.machine.proofs.Computes.{entries, reading, symbols, expressions, trees, admission, nodes, steps, walking, answering, turning, running}
 use Rattle.going.specs.Cases.{lentFirst, stopped, lastOf, withRoot, withWord, memoryOf, refusedAt30, finished, Hold, going}

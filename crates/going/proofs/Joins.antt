@@ -22,13 +22,13 @@ use Rattle.sorts.proofs.ReadingFits.{book-fits}
 use Rattle.machine.specs.Answers.{Answer, answerBytes}
 use Rattle.machine.specs.Turn.{Rooms, State, Turned, Ended, turn, turns, loaded}
 use Rattle.machine.specs.Run.{Memory, Result, Outcome, over, listFor, roomsOf, endedAs}
-use Rattle.sound.specs.Sound.{Argued, SoundHeap, Sound}
-use Rattle.sound.specs.GoOn.{judge, countedOn, goOn}
-use Rattle.sound.specs.Left.{afresh, Left, Narrow}
-use Rattle.sound.proofs.Rows.{row-length}
-use Rattle.sound.proofs.Runs.{turns-sound, run-sound}
-use Rattle.sound.proofs.LeftStates.{state-back, left-accepted}
-use Rattle.sound.proofs.Exactly.{exact}
+use Rattle.accepted.specs.Accepted.{Argued, AcceptedNodes, AcceptedState}
+use Rattle.accepted.specs.GoOn.{judge, countedOn, goOn}
+use Rattle.accepted.specs.LeftIn.{afresh, LeftIn, Narrow}
+use Rattle.accepted.proofs.Rows.{row-length}
+use Rattle.accepted.proofs.Runs.{turns-accepted, run-accepted}
+use Rattle.accepted.proofs.LeftStates.{state-back, left-accepted}
+use Rattle.accepted.proofs.Exactly.{exact}
 use Rattle.run.specs.Walkable.{Index}
 use Rattle.run.proofs.IndexHolds.{arities, index-holds}
 use Rattle.run.proofs.TurnKeeps.{Grown, turn-grown, over-over, over-length}
@@ -119,10 +119,10 @@ module _ (B : Book) (room room′ room″ : Rooms) (nodes : room″ .nodes ≡ r
 
 -- ---- in lent memory
 
--- a node of a sound heap is ten numbers
-sound-tens : (S : Symbols) (k : ℕ) (h : Heap) → Narrow S → SoundHeap S k h → Tens h
+-- a node of an accepted heap is ten numbers
+accepted-tens : (S : Symbols) (k : ℕ) (h : Heap) → Narrow S → AcceptedNodes S k h → Tens h
 unfolding nodeNumbers
-sound-tens S k h narrow sound n lt = by (at h n) (sound .argued n)
+accepted-tens S k h narrow accepted n lt = by (at h n) (accepted .argued n)
   where
     by : (x : Node) → Argued S h x → Ten x
     by (apply f xs) (known, row) = apply-ten f xs (omega (arith, narrow f, row-length row))
@@ -131,15 +131,15 @@ sound-tens S k h narrow sound n lt = by (at h n) (sound .argued n)
     by (forward t) argued = refl
 
 -- rooms of the same nodes and places ask the same of a state
-other-room : {S : Symbols} {room room′ : Rooms} {before : ℕ} {s : State} → room .nodes ≡ room′ .nodes → room .places ≡ room′ .places → Sound S room before s → Sound S room′ before s
-other-room nodes places sound = record {
-  counted = sound .counted;
-  some = sound .some;
-  nodes = rw (← nodes) (sound .nodes);
-  choices = sound .choices;
-  places = rw (← places) (sound .places);
-  heap = sound .heap;
-  entries = sound .entries;
+other-room : {S : Symbols} {room room′ : Rooms} {before : ℕ} {s : State} → room .nodes ≡ room′ .nodes → room .places ≡ room′ .places → AcceptedState S room before s → AcceptedState S room′ before s
+other-room nodes places accepted = record {
+  counted = accepted .counted;
+  some = accepted .some;
+  nodes = rw (← nodes) (accepted .nodes);
+  choices = accepted .choices;
+  places = rw (← places) (accepted .places);
+  heap = accepted .heap;
+  entries = accepted .entries;
 }
 
 -- an admitted book has no symbol of more than eight arguments
@@ -192,8 +192,8 @@ module _ (book asking : List ℕ) {r : Rules} {q : Expr} {p p′ : ℕ} (admitte
   abbrev pub o″ : Outcome
   o″ = endedAs m″ (turns B (roomsOf m″) (a + b) (loaded q))
 
-  sound-first : Sound (r .symbols) (roomsOf m) 0 (first .state)
-  sound-first = run-sound book asking admitted asked (roomsOf m) fits there a
+  accepted-first : AcceptedState (r .symbols) (roomsOf m) 0 (first .state)
+  accepted-first = run-accepted book asking admitted asked (roomsOf m) fits there a
 
   narrow : Narrow (r .symbols)
   narrow = narrow-book book admitted
@@ -201,7 +201,7 @@ module _ (book asking : List ℕ) {r : Rules} {q : Expr} {p p′ : ℕ} (admitte
   numbers-fit : length (heapNumbers (first .state .heap)) ≤ length (m .nodes)
   unfolding roomsOf
   numbers-fit =
-      omega (arith, heap-length (first .state .heap) (sound-tens (r .symbols) (first .state .choices) (first .state .heap) narrow (sound-first .heap)), sound-first .nodes)
+      omega (arith, heap-length (first .state .heap) (accepted-tens (r .symbols) (first .state .choices) (first .state .heap) narrow (accepted-first .heap)), accepted-first .nodes)
 
   -- the rooms are the same but for the answers
   same-nodes : roomsOf m .nodes ≡ roomsOf m′ .nodes
@@ -213,17 +213,17 @@ module _ (book asking : List ℕ) {r : Rules} {q : Expr} {p p′ : ℕ} (admitte
   places-here = omega arith
 
   listed : length (listFor (roomsOf m .places) (first .state .waiting)) ≡ roomsOf m .places
-  listed = list-length (roomsOf m .places) (first .state .waiting) (sound-first .places)
+  listed = list-length (roomsOf m .places) (first .state .waiting) (accepted-first .places)
 
   same-places : roomsOf m .places ≡ roomsOf m′ .places
   unfolding roomsOf endedAs
   same-places = ap (λ (k : ℕ). min mostEntries k)
       (sym (over-length (listFor (roomsOf m .places) (first .state .waiting)) (m .list) (omega (arith, listed, places-here))))
 
-  sound-again : Sound (r .symbols) (roomsOf m′) 0 (first .state)
-  sound-again = other-room same-nodes same-places sound-first
+  accepted-again : AcceptedState (r .symbols) (roomsOf m′) 0 (first .state)
+  accepted-again = other-room same-nodes same-places accepted-first
 
-  left : Left 0 (first .state) (o .result) m′
+  left : LeftIn 0 (first .state) (o .result) m′
   unfolding endedAs
   left = record {
     oldNodes = m .nodes;
@@ -246,21 +246,21 @@ module _ (book asking : List ℕ) {r : Rules} {q : Expr} {p p′ : ℕ} (admitte
   unfolding loaded
   went-on sum =
       let turned : first .state .turns ≤ 0 + a = turns-end B (roomsOf m) a (loaded q) .counted in
-      let accepted = left-accepted (r .symbols) narrow 0 (first .state) (o .result) m′ left sound-again b (omega arith) in
+      let accepted = left-accepted (r .symbols) narrow 0 (first .state) (o .result) m′ left accepted-again b (omega arith) in
       let judged = exact (r .symbols) (o .result) b m′ .0 accepted in
-      let back = state-back (r .symbols) narrow 0 (first .state) (o .result) m′ left sound-again in
+      let back = state-back (r .symbols) narrow 0 (first .state) (o .result) m′ left accepted-again in
       goes-on book (o .result) b m′ (afresh (first .state)) admitted (judged ∙ ap (λ (s : State). got s 0) back) some′
 
-  -- the state that the second call leaves is sound, too
-  sound-second : Sound (r .symbols) (roomsOf m′) (length (first .state .answers)) (second .state)
-  sound-second = turns-sound r (book-fits book admitted) (roomsOf m′) (length (first .state .answers)) b (afresh (first .state)) (record {
-    counted = omega (arith, sound-again .counted);
-    some = sound-again .some;
-    nodes = sound-again .nodes;
-    choices = sound-again .choices;
-    places = sound-again .places;
-    heap = sound-again .heap;
-    entries = sound-again .entries;
+  -- the state that the second call leaves is accepted, too
+  accepted-second : AcceptedState (r .symbols) (roomsOf m′) (length (first .state .answers)) (second .state)
+  accepted-second = turns-accepted r (book-fits book admitted) (roomsOf m′) (length (first .state .answers)) b (afresh (first .state)) (record {
+    counted = omega (arith, accepted-again .counted);
+    some = accepted-again .some;
+    nodes = accepted-again .nodes;
+    choices = accepted-again .choices;
+    places = accepted-again .places;
+    heap = accepted-again .heap;
+    entries = accepted-again .entries;
   })
 
   -- its nodes cover the first call's
@@ -268,12 +268,12 @@ module _ (book asking : List ℕ) {r : Rules} {q : Expr} {p p′ : ℕ} (admitte
   longer = omega (
     arith,
     turns-end B (roomsOf m′) b (afresh (first .state)) .longer,
-    heap-length (first .state .heap) (sound-tens (r .symbols) (first .state .choices) (first .state .heap) narrow (sound-first .heap)),
-    heap-length (second .state .heap) (sound-tens (r .symbols) (second .state .choices) (second .state .heap) narrow (sound-second .heap)),
+    heap-length (first .state .heap) (accepted-tens (r .symbols) (first .state .choices) (first .state .heap) narrow (accepted-first .heap)),
+    heap-length (second .state .heap) (accepted-tens (r .symbols) (second .state .choices) (second .state .heap) narrow (accepted-second .heap)),
   )
 
   listed′ : length (listFor (roomsOf m′ .places) (second .state .waiting)) ≡ roomsOf m′ .places
-  listed′ = list-length (roomsOf m′ .places) (second .state .waiting) (sound-second .places)
+  listed′ = list-length (roomsOf m′ .places) (second .state .waiting) (accepted-second .places)
 
   abbrev third : Ended
   third = turns B (roomsOf m″) (a + b) (loaded q)

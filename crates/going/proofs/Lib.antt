@@ -1,7 +1,6 @@
 pub mod OtherAnswers
 pub mod Joins
 pub mod CallsAnswer
-pub mod Passes
 pub mod NotOfARun
 pub mod WordsBack
 pub mod CasesHold

@@ -12,7 +12,7 @@ use Rattle.nodes.specs.Nodes.{apply, fail, Heap, at}
 use Rattle.limits.specs.Decisions.{Decisions}
 use Rattle.sorts.specs.Sorts.{sortOf, HeapFits}
 use Rattle.meaning.specs.Demand3.{Opposite, Apart}
-use Rattle.sound.specs.Sound.{Meets, Fits, none, more, Argued}
+use Rattle.accepted.specs.Accepted.{Meets, Fits, none, more, Argued}
 
 -- one constructor, of sort 0, with arguments of sorts 0 and 1
 abbrev pub pair : Symbols
@@ -30,7 +30,7 @@ no-sorts σ fits =
     let b : σ 1 ≡ 1 = cc in
     omega arith
 
--- but its arguments fit, and it is sound with no choices
+-- but its arguments fit, and it is accepted with no choices
 fail-fits : (s : ℕ) → Fits pair shared 1 s
 fail-fits s = record { met = met }
   where

@@ -1,4 +1,4 @@
--- Request L7 leaves a state sound: a forward that is pointed at a node further along its chain.
+-- Request L7 leaves a state accepted: a forward that is pointed at a node further along its chain.
 use mathlib.Core.Path.{_≡_, sym, subst, _∙_}
 use mathlib.Core.Logic.{_≢_}
 use Prim.Native.Nat.{ℕ, _<_, _≤_}
@@ -9,21 +9,23 @@ use lib.Seq.{getD-set-same, getD-set-other}
 use Rattle.book.specs.Rules.{Rules}
 use Rattle.nodes.specs.Nodes.{fail, forward, Heap, at}
 use Rattle.rewriting.specs.Rewriting.{Leads}
-use Rattle.rewriting.proofs.Heaps.{there, at-past, forward≢fail, InRange, replaced-each}
+use Rattle.rewriting.specs.Heaps.{InRange}
+use Rattle.rewriting.proofs.Heaps.{there, at-past, forward≢fail, replaced-each}
 use Rattle.rewriting.proofs.Kept.{replaced-inRange, replaced-choices}
-use Rattle.meaning.proofs.Finite.{Arrow, target, Finite, finite, finite-fail, finite-target, keep-finite}
-use Rattle.sound.specs.Sound.{Fits, Path}
-use Rattle.sound.proofs.Asked.{Settles, Settled, leads-asked, settled-argued}
-use Rattle.sound.proofs.Laws.{argues-settled}
-use Rattle.sound.proofs.Circles.{path-end, finite-returns}
-use Rattle.sound.proofs.Turns.{Whole}
+use Rattle.rewriting.specs.Paths.{Arrow, target, Finite, finite}
+use Rattle.meaning.proofs.Finite.{finite-fail, finite-target, keep-finite}
+use Rattle.accepted.specs.Accepted.{Fits, Path}
+use Rattle.accepted.proofs.Asked.{Settles, Settled, leads-asked, settled-argued}
+use Rattle.accepted.proofs.Laws.{argues-settled}
+use Rattle.accepted.proofs.Circles.{path-end, finite-returns}
+use Rattle.accepted.specs.Turnable.{TurnableNodes}
 
 -- a node that forwards lead to is there, if the first is
 leads-inside : {h : Heap} {n m : ℕ} → InRange h → Leads h n m → n < length h → m < length h
 leads-inside range Leads.here lt = lt
 leads-inside range (Leads.along {n} e rest) lt = leads-inside range rest (rw e at (range n))
 
-module _ {r : Rules} {k : ℕ} {h : Heap} (w : Whole r k h) (n t m : ℕ) (is : at h n ≡ forward t) (leads : Leads h t m) where
+module _ {r : Rules} {k : ℕ} {h : Heap} (w : TurnableNodes r k h) (n t m : ℕ) (is : at h n ≡ forward t) (leads : Leads h t m) where
   abbrev h′ : Heap
   h′ = set h n (forward m)
 
@@ -67,8 +69,8 @@ module _ {r : Rules} {k : ℕ} {h : Heap} (w : Whole r k h) (n t m : ℕ) (is : 
       by (yes lt) = keep-finite h h′ n (w .range) (λ y other lt. getD-set-other h n y (forward m) fail other) step (w .ends q) lt
       by (no ge) = finite-fail (at-past h′ q (rw length-set (let z : length h ≤ q = omega arith in z)))
 
-  -- SHORTENED: the heap is as sound as before.
-  pub shortened : Whole r k h′
+  -- SHORTENED: the heap stays turnable.
+  pub shortened : TurnableNodes r k h′
   shortened = record {
     range = replaced-inRange h n (forward m) (w .range) inside;
     numbered = replaced-choices h n (forward m) k (w .numbered) tt;

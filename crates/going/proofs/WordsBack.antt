@@ -13,9 +13,9 @@ use Rattle.limits.specs.Decisions.{bitsOf, wordOf, wordsIn, wordsOf, sideBy, si
 use Rattle.limits.specs.declared.Side.{Side}
 use Rattle.limits.specs.declared.Entry.{Entry as LentEntry}
 use Rattle.limits.specs.Lent.{lent}
-use Rattle.rewriting.proofs.Lists.{All, firsts}
-use Rattle.sound.specs.Read.{entryIn}
-use Rattle.sound.specs.Accepts.{OneSided}
+use Rattle.rewriting.specs.Lists.{All, firsts}
+use Rattle.accepted.specs.Read.{entryIn}
+use Rattle.accepted.specs.Accepts.{OneSided}
 
 abbrev hasBit : ℕ → ℕ → Bool
 hasBit w b = eqb (w / 2 ^ b % 2) 1

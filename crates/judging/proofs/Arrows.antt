@@ -13,8 +13,8 @@ use Rattle.symbols.proofs.Tables.{symbol-there, as-many}
 use Rattle.nodes.specs.Numbers.{kindIn, labelIn, arrowIn}
 use Rattle.rewriting.proofs.Lists.{length-firsts, getD-firsts}
 use Rattle.sorts.specs.Sorts.{argumentsOf}
-use Rattle.sound.specs.Read.{nodeBy, nodeIn}
-use Rattle.sound.specs.Faults.{someOf, arrowsOf}
+use Rattle.accepted.specs.Read.{nodeBy, nodeIn}
+use Rattle.accepted.specs.Faults.{someOf, arrowsOf}
 use Rattle.judging.specs.Marks.{unended}
 
 -- ---- marks

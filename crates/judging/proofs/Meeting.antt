@@ -14,7 +14,7 @@ use Rattle.symbols.specs.Symbols.{Symbols}
 use Rattle.nodes.specs.Nodes.{Node, apply, choice, fail, forward, Heap, at}
 use Rattle.sorts.specs.Sorts.{sortOf}
 use Rattle.rewriting.proofs.Heaps.{there, apply≢fail, forward≢fail, choice≢fail}
-use Rattle.sound.specs.Sound.{Meets}
+use Rattle.accepted.specs.Accepted.{Meets}
 use Rattle.judging.specs.Sorts.{several, joined, metBy, Met, Says, Within, AllMet, leftOf, allLeft, MetPassed}
 
 -- ---- joining

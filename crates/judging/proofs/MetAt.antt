@@ -10,7 +10,7 @@ use Rattle.symbols.specs.Table.{symbolIn, symbolsIn}
 use Rattle.symbols.proofs.Tables.{symbol-there, as-many}
 use Rattle.nodes.specs.Numbers.{kindIn, labelIn, arrowIn}
 use Rattle.sorts.specs.Sorts.{sortOf}
-use Rattle.sound.specs.Read.{nodeBy, nodeIn}
+use Rattle.accepted.specs.Read.{nodeBy, nodeIn}
 use Rattle.judging.specs.Sorts.{joined, metBy}
 
 module _ (book table m met : List ℕ) (n own : ℕ) where

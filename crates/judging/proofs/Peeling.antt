@@ -12,11 +12,12 @@ use lib.Seq.{getD-set-same, getD-set-other}
 use Rattle.symbols.specs.Symbols.{Symbols}
 use Rattle.nodes.specs.Nodes.{Node, Heap, at}
 use Rattle.rewriting.proofs.Heaps.{at-past}
-use Rattle.meaning.proofs.Finite.{Arrow, Finite, finite, finite-fail}
-use Rattle.sound.specs.Read.{nodeIn, heapIn}
-use Rattle.sound.specs.Faults.{someOf, arrowsOf}
-use Rattle.sound.proofs.Reaches.{not-both, not-passed, some-is, some-has, arrow-in, in-arrow}
-use Rattle.sound.proofs.Judged.{heap-at, heap-sized}
+use Rattle.rewriting.specs.Paths.{Arrow, Finite, finite}
+use Rattle.meaning.proofs.Finite.{finite-fail}
+use Rattle.accepted.specs.Read.{nodeIn, heapIn}
+use Rattle.accepted.specs.Faults.{someOf, arrowsOf}
+use Rattle.accepted.proofs.Reaches.{not-both, not-passed, some-is, some-has, arrow-in, in-arrow}
+use Rattle.accepted.proofs.Judged.{heap-at, heap-sized}
 use Rattle.judging.specs.Marks.{unended, missing, unmarked, Right, ClosedAt, Ended, Passed}
 
 -- ---- counting

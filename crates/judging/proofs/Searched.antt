@@ -12,12 +12,12 @@ use lib.ListN.{length, getD, set, length-set}
 use lib.Seq.{getD-set-same, getD-set-other}
 use Rattle.nodes.specs.Nodes.{fail, Heap, at}
 use Rattle.rewriting.proofs.Heaps.{there}
-use Rattle.meaning.proofs.Finite.{In, first, later, Arrow}
-use Rattle.sound.specs.Sound.{Path}
-use Rattle.sound.specs.Faults.{arrowsOf, returns}
-use Rattle.sound.proofs.Circles.{path-end}
-use Rattle.sound.proofs.Misfits.{and-both}
-use Rattle.sound.proofs.Reaches.{arrow-in, in-arrow, not-both, not-passed, returns-path, path-returns}
+use Rattle.rewriting.specs.Paths.{In, first, later, Arrow}
+use Rattle.accepted.specs.Accepted.{Path}
+use Rattle.accepted.specs.Faults.{arrowsOf, returns}
+use Rattle.accepted.proofs.Circles.{path-end}
+use Rattle.accepted.proofs.Misfits.{and-both}
+use Rattle.accepted.proofs.Reaches.{arrow-in, in-arrow, not-both, not-passed, returns-path, path-returns}
 use Rattle.judging.specs.Marks.{unended, missing, unmarked}
 use Rattle.judging.specs.Search.{Seen, AllSeen, OnStack, Searching, Roomy, Put}
 use Rattle.judging.proofs.Peeling.{unmarked-less}

@@ -1,4 +1,4 @@
--- What the marks say of the tests of a node (crate `sound`, specs/Faults.antt).
+-- What the marks say of the tests of a node (crate `accepted`, specs/Faults.antt).
 use mathlib.Core.Bool.{true, false}
 use mathlib.Core.List.{List}
 use mathlib.Core.Logic.{_⊎_, inl, inr, _≢_}
@@ -10,10 +10,10 @@ use lib.ListN.{getD}
 use Rattle.symbols.specs.Symbols.{Symbols}
 use Rattle.nodes.specs.Nodes.{Heap}
 use Rattle.sorts.specs.Sorts.{sortOf}
-use Rattle.sound.specs.Faults.{returns, misfit}
-use Rattle.sound.proofs.Circles.{finite-returns}
-use Rattle.sound.proofs.Reaches.{returns-path, not-passed}
-use Rattle.sound.proofs.Misfits.{Misfit, misfit-is, is-misfit}
+use Rattle.accepted.specs.Faults.{returns, misfit}
+use Rattle.accepted.proofs.Circles.{finite-returns}
+use Rattle.accepted.proofs.Reaches.{returns-path, not-passed}
+use Rattle.accepted.proofs.Misfits.{Misfit, misfit-is, is-misfit}
 use Rattle.judging.specs.Marks.{Ended}
 use Rattle.judging.specs.Sorts.{several, Met, Says, AllMet}
 

@@ -6,8 +6,8 @@ use Prim.Native.Nat.{ℕ, zero, suc, _+_, _<_}
 use lib.Dec.{ltb, eqb}
 use lib.ListN.{length, getD}
 use Rattle.nodes.specs.Nodes.{Heap, at}
-use Rattle.meaning.proofs.Finite.{Finite}
-use Rattle.sound.specs.Faults.{someOf, arrowsOf}
+use Rattle.rewriting.specs.Paths.{Finite}
+use Rattle.accepted.specs.Faults.{someOf, arrowsOf}
 
 -- node x is one of the first `used`, and not marked
 unfoldable pub unended : ℕ → List ℕ → ℕ → Bool

@@ -5,8 +5,8 @@ use mathlib.Core.Path.{_≡_}
 use Prim.Native.Nat.{ℕ, _+_, _<_, _≤_}
 use lib.ListN.{length, getD}
 use Rattle.nodes.specs.Nodes.{Heap, at}
-use Rattle.meaning.proofs.Finite.{Arrow}
-use Rattle.sound.specs.Sound.{Path}
+use Rattle.rewriting.specs.Paths.{Arrow}
+use Rattle.accepted.specs.Accepted.{Path}
 use Rattle.judging.specs.Marks.{unmarked}
 
 abbrev pub Seen : List ℕ → ℕ → Type 0

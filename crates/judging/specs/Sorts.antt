@@ -10,7 +10,7 @@ use lib.ListN.{length, getD}
 use Rattle.symbols.specs.Symbols.{Symbols}
 use Rattle.nodes.specs.Nodes.{Node, apply, choice, fail, forward, Heap, at}
 use Rattle.sorts.specs.Sorts.{sortOf}
-use Rattle.sound.specs.Sound.{Meets}
+use Rattle.accepted.specs.Accepted.{Meets}
 
 abbrev pub several : ℕ
 several = 257

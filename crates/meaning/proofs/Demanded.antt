@@ -12,11 +12,13 @@ use Rattle.book.specs.Trees.{Tree}
 use Rattle.book.specs.Rules.{Book}
 use Rattle.nodes.specs.Nodes.{Node, Heap, at}
 use Rattle.rewriting.specs.Rewriting.{Leads, Ends, Value, Values, noValues, moreValues, IsValue, AreValues}
-use Rattle.rewriting.proofs.Lists.{All, all-at, all-append}
+use Rattle.rewriting.specs.Lists.{All}
+use Rattle.rewriting.proofs.Lists.{all-at, all-append}
 use Rattle.meaning.specs.Partial.{Part, Parts, bot, con, toList, _⊑_, _⊑*_, con⊑, Hits, Gives}
 use Rattle.meaning.specs.Readings.{Side, sideOf, AgreesIn, whole, wholes}
 use Rattle.meaning.proofs.Order.{⊑-refl, ⊑-of-eq, ⊑-trans, ⊑-con, _⊑ˡ_, _∷⊑_, ⊑ˡ-length, ⊑ˡ-refl, variable, append-mono, gives-mono}
-use Rattle.meaning.proofs.Finite.{Arrow, argument, target, Finite, finite, every}
+use Rattle.rewriting.specs.Paths.{Arrow, argument, target, Finite, finite}
+use Rattle.meaning.proofs.Finite.{every}
 use Rattle.meaning.proofs.Measure.{below-row}
 
 -- what stands for a constructor is a variable that is there

@@ -13,7 +13,8 @@ use Rattle.nodes.specs.Nodes.{Node, apply, choice, fail, forward, Heap, at}
 use Rattle.rewriting.specs.Rewriting.{Value}
 use Rattle.rewriting.proofs.Lists.{map-same}
 use Rattle.rewriting.proofs.Update.{splice, splice-below, splice-from}
-use Rattle.rewriting.proofs.Heaps.{at-past, there, forward≢fail, choice≢fail, ArrowsBelow, InRange, grown, grown-old, grown-each}
+use Rattle.rewriting.specs.Heaps.{ArrowsBelow, InRange}
+use Rattle.rewriting.proofs.Heaps.{at-past, there, forward≢fail, choice≢fail, grown, grown-old, grown-each}
 use Rattle.meaning.specs.Partial.{Part, bot, _⊑_, bot⊑}
 use Rattle.meaning.specs.Readings.{Side, left, right, sideOf, Agrees, Reads, whole, Decisions, CanBe}
 use Rattle.meaning.proofs.Order.{⊑-refl, ⊑-of-eq, ⊑-whole, _⊑ᶠ_, ⊑ˡ-refl, agrees-mono, agrees-apply, agrees-choice, agrees-fail, agrees-forward, agrees-bot}

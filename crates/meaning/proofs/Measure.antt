@@ -6,8 +6,8 @@ use Prim.Native.Nat.{ℕ, zero, suc, _<_}
 use lib.ListN.{length, getD, set}
 use Rattle.book.specs.Rules.{Book}
 use Rattle.nodes.specs.Nodes.{Node, at}
-use Rattle.rewriting.proofs.Lists.{firsts}
-use Rattle.rewriting.proofs.Heaps.{ChoiceBelow, ChoicesBelow}
+use Rattle.rewriting.specs.Lists.{firsts}
+use Rattle.rewriting.specs.Heaps.{ChoiceBelow, ChoicesBelow}
 use Rattle.meaning.specs.Partial.{Part, Parts, bot, noParts, moreParts, toList, ofList, _⊑_, _⊑*_, none⊑, more⊑}
 use Rattle.meaning.specs.Readings.{Side, AgreesIn, Agrees}
 use Rattle.meaning.proofs.Order.{⊑-refl, _⊑ˡ_, []⊑, _∷⊑_, _⊑ᶠ_, agreesIn-mono}

@@ -5,7 +5,8 @@ use Prim.Native.Nat.{ℕ, zero, suc, _<_}
 use native.Mathlib.Nat.{not-suc-le-zero, le-of-suc-le-suc}
 use native.Mathlib.Omega.{arith}
 use lib.ListN.{length, getD}
-use Rattle.rewriting.proofs.Lists.{All, all-at, all-append}
+use Rattle.rewriting.specs.Lists.{All}
+use Rattle.rewriting.proofs.Lists.{all-at, all-append}
 
 -- P holds of some element
 pub data Any {A : Type 0} (P : A → Type 0) : List A → Type 0 where

@@ -11,7 +11,7 @@ use Rattle.limits.specs.declared.Side.the-variants.{Open, Left, Right}
 use Rattle.limits.specs.Decisions.{Decisions, allOpen}
 use Rattle.reading.specs.Bytes.{twoBytes}
 use Rattle.machine.specs.Answers.{Answer, decisionNumbers, twoBytesEach, recordBytes, recordsBytes, answerBytes}
-use Rattle.rewriting.proofs.Lists.{All}
+use Rattle.rewriting.specs.Lists.{All}
 use Rattle.meaning.specs.Records.{numbersIn, decidedBesides, answerOf, recordsIn, answersIn}
 
 -- a number is its two bytes

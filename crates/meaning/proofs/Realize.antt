@@ -14,8 +14,10 @@ use Rattle.book.specs.Rules.{Book}
 use Rattle.nodes.specs.Nodes.{Node, Heap, at}
 use Rattle.machine.specs.Made.{place, rewritten}
 use Rattle.rewriting.specs.Rewriting.{State, Step, Steps, Value, Reaches}
-use Rattle.rewriting.proofs.Lists.{sum, sum-append, sum-set, firsts, length-firsts, getD-firsts}
-use Rattle.rewriting.proofs.Heaps.{at-past, ChoicesBelow}
+use Rattle.rewriting.specs.Lists.{firsts}
+use Rattle.rewriting.proofs.Lists.{sum, sum-append, sum-set, length-firsts, getD-firsts}
+use Rattle.rewriting.specs.Heaps.{ChoicesBelow}
+use Rattle.rewriting.proofs.Heaps.{at-past}
 use Rattle.rewriting.proofs.Holds.{Holds, holds-of}
 use Rattle.rewriting.proofs.Steers.{Lawful}
 use Rattle.meaning.specs.Partial.{Part, bot, _⊑_, bot⊑, Gives}

@@ -10,7 +10,7 @@ use lib.ListN.{length, set}
 use Rattle.expressions.specs.Expressions.{Expr, Exprs}
 use Rattle.nodes.specs.Nodes.{Node, apply, choice, fail, forward, Heap, at}
 use Rattle.machine.specs.Made.{Placed, make, makeRow, place, rewritten}
-use Rattle.rewriting.proofs.Heaps.{ChoiceBelow, ChoicesBelow}
+use Rattle.rewriting.specs.Heaps.{ChoiceBelow, ChoicesBelow}
 use Rattle.rewriting.proofs.Kept.{make-choices, makeRow-choices, place-choices}
 
 -- 1 if P holds, else 0

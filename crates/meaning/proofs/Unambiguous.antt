@@ -6,7 +6,7 @@ use Rattle.symbols.specs.Symbols.{Symbols}
 use Rattle.book.specs.Rules.{Book, Rules, bookOf}
 use Rattle.nodes.specs.Nodes.{Heap, at}
 use Rattle.rewriting.specs.Rewriting.{State, Steps, Value, Values, con, noValues, moreValues, IsValue, AreValues, Reaches}
-use Rattle.rewriting.proofs.Heaps.{InRange}
+use Rattle.rewriting.specs.Heaps.{InRange}
 use Rattle.sorts.specs.Sorts.{argumentsOf, HeapFits}
 use Rattle.sorts.proofs.HeapsFit.{Sorted, sorted-step}
 use Rattle.meaning.proofs.Finite.{step-range}

@@ -2,3 +2,4 @@ pub mod Records
 pub mod Demand3
 pub mod Partial
 pub mod Readings
+pub mod Entries

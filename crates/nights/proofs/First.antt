@@ -8,7 +8,7 @@ use native.Mathlib.Omega.{arith}
 use borrow.Author.Tests.{lt-ltb, le-ltb}
 use lib.Dec.{ltb}
 use lib.ListN.{length}
-use Rattle.rewriting.proofs.Lists.{All}
+use Rattle.rewriting.specs.Lists.{All}
 use Rattle.machine.specs.Answers.{recordsBytes}
 use Rattle.limits.specs.Sizes.{mostChoices}
 use Rattle.expressions.specs.Expressions.{Expr}

@@ -14,7 +14,8 @@ use Rattle.limits.specs.declared.Side.the-variants.{Open, Left, Right}
 use Rattle.limits.specs.Decisions.{Decisions, allOpen}
 use Rattle.limits.specs.Lent.{Entry}
 use Rattle.reading.specs.Bytes.{twoBytes}
-use Rattle.rewriting.proofs.Lists.{All, all-append}
+use Rattle.rewriting.specs.Lists.{All}
+use Rattle.rewriting.proofs.Lists.{all-append}
 use Rattle.expressions.specs.Expressions.{Expr}
 use Rattle.book.specs.Trees.{Tree}
 use Rattle.book.specs.Rules.{Book}
@@ -25,7 +26,8 @@ use Rattle.machine.specs.FirstLook.{firstLook}
 use Rattle.machine.specs.Walk.{finished, rewrites, slotsFrom, slotsOf, children, construct, steer, walkIn, walk}
 use Rattle.machine.specs.Answers.{Answer, rowFrom, symbolsFrom, decisionNumbers, twoBytesEach, recordBytes, recordsBytes, answerBytes}
 use Rattle.machine.specs.Turn.{Rooms, State, Turned, whole, refused, turned, gone, entry, split, answered, stepped, done, turnAt, turn}
-use Rattle.meaning.proofs.Follows.{NoForward, follow-still}
+use Rattle.rewriting.specs.Heaps.{NoForward}
+use Rattle.meaning.proofs.Follows.{follow-still}
 use Rattle.nights.proofs.Weights.{Plain, Weighs, Load, load-append, load-after, rewritten-weighs, place-counts}
 
 -- ---- the walk to a symbol without arguments

@@ -6,8 +6,8 @@ use native.Mathlib.Omega.{arith}
 use borrow.Author.Needs.{needs}
 use lib.ListN.{length, drop}
 use Rattle.symbols.specs.Table.{symbolsIn}
-use Rattle.sound.specs.Read.{nodeIn}
-use Rattle.sound.specs.Faults.{someOf, arrowsOf}
+use Rattle.accepted.specs.Read.{nodeIn}
+use Rattle.accepted.specs.Faults.{someOf, arrowsOf}
 use Rattle.judging.specs.Marks.{unended}
 use Rattle.judging.proofs.Arrows.{nth-arrow, none-left, step-none, step-some}
 use Rattle.judging.proofs.all_marked.Statement.{statement}

@@ -6,8 +6,8 @@ use native.Mathlib.Omega.{arith}
 use borrow.Author.Needs.{needs}
 use lib.ListN.{length, getD}
 use Rattle.symbols.specs.Table.{symbolsIn}
-use Rattle.sound.specs.Read.{heapIn}
-use Rattle.sound.proofs.Judged.{heap-sized}
+use Rattle.accepted.specs.Read.{heapIn}
+use Rattle.accepted.proofs.Judged.{heap-sized}
 use Rattle.judging.specs.Marks.{unmarked}
 use Rattle.judging.specs.Search.{AllSeen, Searching, Roomy}
 use Rattle.judging.proofs.Searched.{pop, unseen, all-on, unmarked-most, put-sum, put-room, search-says}

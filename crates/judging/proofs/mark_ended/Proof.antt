@@ -5,7 +5,7 @@ use Prim.Native.Nat.{ℕ, _+_, _<_}
 use native.Mathlib.Omega.{arith}
 use lib.ListN.{length}
 use Rattle.symbols.specs.Table.{symbolsIn}
-use Rattle.sound.specs.Read.{heapIn}
+use Rattle.accepted.specs.Read.{heapIn}
 use Rattle.judging.specs.Marks.{unmarked, Right, ClosedAt}
 use Rattle.judging.proofs.Peeling.{oneIf, closed-all, pass-less}
 use Rattle.judging.proofs.mark_ended.Statement.{statement}

@@ -6,7 +6,7 @@ use native.Mathlib.Omega.{arith}
 use lib.ListN.{length, getD}
 use Rattle.nodes.specs.Nodes.{at}
 use Rattle.symbols.specs.Table.{symbolsIn}
-use Rattle.sound.specs.Read.{heapIn}
+use Rattle.accepted.specs.Read.{heapIn}
 use Rattle.judging.specs.Sorts.{metBy, Met, Says, allLeft}
 use Rattle.judging.proofs.Meeting.{oneIf, all-met, met-less}
 use Rattle.judging.proofs.mark_met.Statement.{statement}

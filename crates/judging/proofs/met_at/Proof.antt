@@ -5,7 +5,7 @@ use borrow.Author.Needs.{needs}
 use Prim.Native.Nat.{ℕ}
 use lib.ListN.{getD}
 use Rattle.symbols.specs.Table.{symbolsIn}
-use Rattle.sound.specs.Read.{nodeIn}
+use Rattle.accepted.specs.Read.{nodeIn}
 use Rattle.judging.specs.Sorts.{metBy}
 use Rattle.judging.proofs.MetAt.{said-known, said-unknown, said-choice, said-forward, said-other}
 use Rattle.judging.proofs.met_at.Statement.{statement}

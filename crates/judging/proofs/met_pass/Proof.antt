@@ -7,8 +7,8 @@ use borrow.Author.Needs.{needs}
 use lib.ListN.{length, getD}
 use Rattle.nodes.specs.Nodes.{Node}
 use Rattle.symbols.specs.Table.{symbolsIn}
-use Rattle.sound.specs.Read.{heapIn}
-use Rattle.sound.proofs.Judged.{heap-at, heap-sized}
+use Rattle.accepted.specs.Read.{heapIn}
+use Rattle.accepted.proofs.Judged.{heap-at, heap-sized}
 use Rattle.judging.specs.Sorts.{metBy}
 use Rattle.judging.proofs.Meeting.{Meeting, meeting-first, meeting-on, meeting-mark, meeting-last}
 use Rattle.judging.proofs.met_pass.Statement.{statement}

@@ -6,8 +6,8 @@ use native.Mathlib.Omega.{arith}
 use borrow.Author.Needs.{needs}
 use lib.ListN.{length}
 use Rattle.symbols.specs.Table.{symbolsIn}
-use Rattle.sound.specs.Read.{heapIn}
-use Rattle.sound.proofs.Judged.{heap-sized}
+use Rattle.accepted.specs.Read.{heapIn}
+use Rattle.accepted.proofs.Judged.{heap-sized}
 use Rattle.judging.proofs.Peeling.{Passing, passing-first, passing-on, passing-mark, passing-last, marked-none, marked-some, open-closed}
 use Rattle.judging.proofs.pass.Statement.{statement}
 use Rattle.judging.proofs.pass.Tie as tie

@@ -7,9 +7,9 @@ use borrow.Author.Needs.{needs}
 use lib.ListN.{length, getD, set}
 use Rattle.nodes.specs.Nodes.{Node, at}
 use Rattle.symbols.specs.Table.{symbolsIn}
-use Rattle.sound.specs.Read.{nodeIn, heapIn}
-use Rattle.sound.specs.Faults.{arrowsOf}
-use Rattle.sound.proofs.Judged.{heap-at, heap-sized}
+use Rattle.accepted.specs.Read.{nodeIn, heapIn}
+use Rattle.accepted.specs.Faults.{arrowsOf}
+use Rattle.accepted.proofs.Judged.{heap-at, heap-sized}
 use Rattle.judging.proofs.Arrows.{nth-arrow}
 use Rattle.judging.proofs.Peeling.{not-open}
 use Rattle.judging.proofs.Searched.{Putting, putting-first, putting-on, putting-push, putting-last, is-open, stack-room}

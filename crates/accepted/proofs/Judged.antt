@@ -1,4 +1,4 @@
--- THE CHECK accepts exactly the sound states.
+-- THE CHECK accepts exactly the accepted states.
 use mathlib.Core.Bool.{false}
 use mathlib.Core.Path.{_≡_, refl, sym, ap, _∙_}
 use mathlib.Core.Logic.{_≢_}
@@ -12,16 +12,19 @@ use lib.ListN.{length}
 use Rattle.symbols.specs.Symbols.{Symbols}
 use Rattle.nodes.specs.Nodes.{Node, apply, choice, fail, forward, Heap, at}
 use Rattle.nodes.specs.Numbers.{kindIn, labelIn, arrowIn}
-use Rattle.rewriting.proofs.Heaps.{there, at-past, apply≢fail, ArrowsBelow, ChoiceBelow}
-use Rattle.rewriting.proofs.Lists.{firsts, length-firsts, getD-firsts}
+use Rattle.rewriting.specs.Heaps.{ArrowsBelow, ChoiceBelow}
+use Rattle.rewriting.proofs.Heaps.{there, at-past, apply≢fail}
+use Rattle.rewriting.specs.Lists.{firsts}
+use Rattle.rewriting.proofs.Lists.{length-firsts, getD-firsts}
 use Rattle.sorts.specs.Sorts.{sortOf, argumentsOf}
-use Rattle.meaning.proofs.Finite.{In, first, later, Arrow, argument, every, arrow-below}
-use Rattle.sound.specs.Sound.{Meets, Fits, Row, none, more, Argued, Path, SoundHeap}
-use Rattle.sound.specs.Read.{nodeBy, nodeIn, heapIn}
-use Rattle.sound.specs.Faults.{someOf, arrowsOf, returns, misfit, someMisfit, badAt, badNode}
-use Rattle.sound.proofs.Reaches.{or-none, none-or, not-passed, not-both, some-is, some-has, in-arrow}
-use Rattle.sound.proofs.Reaches.{returns-path, path-returns}
-use Rattle.sound.proofs.Misfits.{misfit-is, is-misfit}
+use Rattle.rewriting.specs.Paths.{In, first, later, Arrow, argument}
+use Rattle.meaning.proofs.Finite.{every, arrow-below}
+use Rattle.accepted.specs.Accepted.{Meets, Fits, Along, none, more, Argued, Path, AcceptedNodes}
+use Rattle.accepted.specs.Read.{nodeBy, nodeIn, heapIn}
+use Rattle.accepted.specs.Faults.{someOf, arrowsOf, returns, misfit, someMisfit, badAt, badNode}
+use Rattle.accepted.proofs.Reaches.{or-none, none-or, not-passed, not-both, some-is, some-has, in-arrow}
+use Rattle.accepted.proofs.Reaches.{returns-path, path-returns}
+use Rattle.accepted.proofs.Misfits.{misfit-is, is-misfit}
 
 -- ---- the nodes read
 
@@ -70,7 +73,7 @@ of-fits : (S : Symbols) (h : Heap) (n s : ℕ) → Fits S h n s → misfit S h n
 of-fits S h n s fits = not-passed (misfit S h n s) (λ e. let x = misfit-is S h n s e in x .other (fits .met (x .node) (x .symbol) (x .arguments) (x .meets) (x .is)))
 
 row-of : (S : Symbols) (h : Heap) → ((m g : ℕ) (ys : List ℕ) → at h m ≡ apply g ys → g < length S) → (xs ss : List ℕ) → length xs ≡ length ss
-    → someMisfit S h xs ss ≡ false → Row (Fits S h) xs ss
+    → someMisfit S h xs ss ≡ false → Along (Fits S h) xs ss
 unfolding someMisfit
 row-of S h known [] [] sized e = none
 row-of S h known [] (s ∷ ss) sized e = absurd (omega arith)
@@ -79,7 +82,7 @@ row-of S h known (x ∷ xs) (s ∷ ss) sized e =
     let (p, q) = or-none (misfit S h x s) (someMisfit S h xs ss) e in
     more (fits-of S h known x s p) (row-of S h known xs ss (omega arith) q)
 
-of-row : (S : Symbols) (h : Heap) {xs ss : List ℕ} → Row (Fits S h) xs ss → someMisfit S h xs ss ≡ false
+of-row : (S : Symbols) (h : Heap) {xs ss : List ℕ} → Along (Fits S h) xs ss → someMisfit S h xs ss ≡ false
 unfolding someMisfit
 of-row S h none = refl
 of-row S h (more {x} {s} {xs} {ss} r rs) = none-or (misfit S h x s) (someMisfit S h xs ss) (of-fits S h x s r) (of-row S h rs)
@@ -171,9 +174,9 @@ module _ (S : Symbols) (k : ℕ) (m : List ℕ) (h : Heap) (full : Full S h) whe
     ends-here n (no ge) (Path.one a) = no-arrow (rw (at-past h n (omega arith)) at a)
     ends-here n (no ge) (Path.more a q) = no-arrow (rw (at-past h n (omega arith)) at a)
 
-    -- so the heap is sound
-    pub sound-heap : SoundHeap S k h
-    sound-heap = record {
+    -- so the heap is accepted
+    pub accepted-heap : AcceptedNodes S k h
+    accepted-heap = record {
       range = each (ArrowsBelow (length h)) tt (λ n lt. passed n (all n lt) .below);
       numbered = each (ChoiceBelow k) tt (λ n lt. numbered-here (at h n) (passed n (all n lt) .own));
       argued = each (Argued S h) tt (λ n lt. argued-here (at h n) (full n) (passed n (all n lt) .own));
@@ -181,7 +184,7 @@ module _ (S : Symbols) (k : ℕ) (m : List ℕ) (h : Heap) (full : Full S h) whe
     }
 
   -- and the other way round
-  module _ (sound : SoundHeap S k h) where
+  module _ (accepted : AcceptedNodes S k h) where
     own-good : (x : Node) → ChoiceBelow k x → Argued S h x → badAt S k h x ≡ false
     unfolding badAt
     own-good (apply f xs) numbered (known, row) = none-or (leb (length S) f) (someMisfit S h xs (argumentsOf S f)) (lt-leb (length S) f known) (of-row S h row)
@@ -194,6 +197,6 @@ module _ (S : Symbols) (k : ℕ) (m : List ℕ) (h : Heap) (full : Full S h) whe
     good-node n kind =
         none-or _ (returns h n)
         (none-or _ (someOf (leb (length h)) (arrowsOf (at h n)))
-        (none-or (ltb 3 (kindIn m n)) (badAt S k h (at h n)) (le-ltb 3 (kindIn m n) kind) (own-good (at h n) (sound .numbered n) (sound .argued n)))
-        (of-below (length h) (at h n) (sound .range n)))
-        (not-passed (returns h n) (λ e. sound .ends n (returns-path h n e)))
+        (none-or (ltb 3 (kindIn m n)) (badAt S k h (at h n)) (le-ltb 3 (kindIn m n) kind) (own-good (at h n) (accepted .numbered n) (accepted .argued n)))
+        (of-below (length h) (at h n) (accepted .range n)))
+        (not-passed (returns h n) (λ e. accepted .ends n (returns-path h n e)))

@@ -16,7 +16,7 @@ abbrev pub afresh : State → State
 afresh s = record { heap = s .heap; choices = s .choices; waiting = s .waiting; answers = []; turns = s .turns }
 
 -- its nodes and entries stand in lent memory, and its counts are told; `before` answers were counted before it
-pub record Left (before : ℕ) (s : State) (last : Result) (m : Memory) : Type 0 where
+pub record LeftIn (before : ℕ) (s : State) (last : Result) (m : Memory) : Type 0 where
   pub oldNodes : List ℕ
   pub oldList : List LentEntry
   pub nodes : m .nodes ≡ over (heapNumbers (s .heap)) oldNodes

@@ -1,4 +1,4 @@
--- THE CHECK accepts exactly the sound states: entries, and all tests together.
+-- THE CHECK accepts exactly the accepted states: entries, and all tests together.
 use mathlib.Core.Bool.{Bool, true, false, _&&_, _||_}
 use mathlib.Core.Path.{_≡_, refl, sym, ap, _∙_}
 use mathlib.Core.List.{List, [], _∷_, map}
@@ -18,15 +18,16 @@ use Rattle.reading.specs.Reading.{Reading, got, refuse_at_if_else_}
 use Rattle.symbols.specs.Symbols.{Symbols}
 use Rattle.nodes.specs.Nodes.{Heap}
 use Rattle.machine.specs.Run.{Memory, Result, roomsOf}
-use Rattle.rewriting.proofs.Lists.{All, length-firsts, getD-firsts}
-use Rattle.sound.specs.Sound.{SoundEntry}
-use Rattle.sound.specs.Read.{heapIn, entryIn, stateIn}
-use Rattle.sound.specs.Faults.{someFrom, badNode, badSide, badEntry}
-use Rattle.sound.specs.GoOn.{refuseFirst, judge}
-use Rattle.sound.specs.Accepts.{OneSided, Accepted, Exact}
-use Rattle.sound.proofs.Reaches.{or-left, or-right, or-none, none-or, not-passed, not-both}
-use Rattle.sound.proofs.Misfits.{and-both}
-use Rattle.sound.proofs.Judged.{heap-sized, heap-full, passed-kind, sound-heap, good-node}
+use Rattle.rewriting.specs.Lists.{All}
+use Rattle.rewriting.proofs.Lists.{length-firsts, getD-firsts}
+use Rattle.accepted.specs.Accepted.{AcceptedEntry}
+use Rattle.accepted.specs.Read.{heapIn, entryIn, stateIn}
+use Rattle.accepted.specs.Faults.{someFrom, badNode, badSide, badEntry}
+use Rattle.accepted.specs.GoOn.{refuseFirst, judge}
+use Rattle.accepted.specs.Accepts.{OneSided, AcceptedMemory, Exact}
+use Rattle.accepted.proofs.Reaches.{or-left, or-right, or-none, none-or, not-passed, not-both}
+use Rattle.accepted.proofs.Misfits.{and-both}
+use Rattle.accepted.proofs.Judged.{heap-sized, heap-full, passed-kind, accepted-heap, good-node}
 
 -- ---- tests one after the other
 
@@ -92,9 +93,9 @@ read-side x i lt = getD-firsts mostChoices (sideAt (x .words)) i Open lt
 
 module _ (k used : ℕ) (h : Heap) (x : LentEntry) (sized : length h ≡ used) where
   -- an entry that passes
-  entry-sound : badEntry k used x ≡ false → SoundEntry k h (entryIn x) × OneSided x
+  entry-accepted : badEntry k used x ≡ false → AcceptedEntry k h (entryIn x) × OneSided x
   unfolding badEntry badSide entryIn sideAt
-  entry-sound e =
+  entry-accepted e =
       let (root, sides) = or-none (leb used (x .root)) (someFrom (badSide k (x .words)) 0 mostChoices) e in
       let each = from-each (badSide k (x .words)) 0 mostChoices sides in (
         record {
@@ -123,10 +124,10 @@ module _ (k used : ℕ) (h : Heap) (x : LentEntry) (sized : length h ≡ used) w
           read-side x i lt ∙ rw (l, r) refl
 
   -- and the other way round
-  sound-entry : SoundEntry k h (entryIn x) → OneSided x → badEntry k used x ≡ false
+  accepted-entry : AcceptedEntry k h (entryIn x) → OneSided x → badEntry k used x ≡ false
   unfolding badEntry badSide entryIn sideAt
-  sound-entry sound once =
-      none-or (leb used (x .root)) _ (lt-leb used (x .root) (rw sized at (sound .inside)))
+  accepted-entry accepted once =
+      none-or (leb used (x .root)) _ (lt-leb used (x .root) (rw sized at (accepted .inside)))
       (each-from (badSide k (x .words)) 0 mostChoices (λ i lt. ap (badSide k (x .words)) (omega arith) ∙ good i lt))
     where
       left : ℕ → Bool
@@ -140,7 +141,7 @@ module _ (k used : ℕ) (h : Heap) (x : LentEntry) (sized : length h ≡ used) w
           (not-passed (left i && right i) (λ q. let (l, r) = and-both (left i) (right i) q in once i lt l r))
           (not-passed (leb k i && (left i || right i)) (λ q.
           let (later, some) = and-both (leb k i) (left i || right i) q in
-          let (l, r) = side-open (left i) (right i) (sym (read-side x i lt) ∙ sound .free i (leb-true k i later)) in
+          let (l, r) = side-open (left i) (right i) (sym (read-side x i lt) ∙ accepted .free i (leb-true k i later)) in
           not-both (left i || right i) (none-or (left i) (right i) l r) some))
 
 -- ---- the entries that wait
@@ -175,7 +176,7 @@ module _ (S : Symbols) (last : Result) (fuel : ℕ) (m : Memory) where
   waiting-sized le = length-map (take (last .waiting) (m .list)) entryIn ∙ length-take (last .waiting) (m .list) ∙ (let q = places-there in omega arith)
 
   -- what passes is accepted
-  judged-accepted : judge S last fuel m ≡ got (stateIn S last m) 0 → Accepted S last fuel m
+  judged-accepted : judge S last fuel m ≡ got (stateIn S last m) 0 → AcceptedMemory S last fuel m
   unfolding judge stateIn
   judged-accepted e =
       let (a, e₁) = test-got _ _ (ltb mostFuel (last .turns + fuel)) _ e in
@@ -195,16 +196,16 @@ module _ (S : Symbols) (last : Result) (fuel : ℕ) (m : Memory) where
         summed = ltb-false _ _ a;
         listed = listed;
         kinds = λ n lt. passed-kind S (last .choices) (m .nodes) h (heap-full S (m .nodes) (last .nodes)) n (all n (rw sized lt));
-        sides = λ i lt. entry-sound (last .choices) (last .nodes) h (getD (m .list) i lentVacant) sized (each i lt) .1;
-        sound = record {
+        sides = λ i lt. entry-accepted (last .choices) (last .nodes) h (getD (m .list) i lentVacant) sized (each i lt) .1;
+        accepted = record {
           counted = omega (arith, ltb-false (last .turns) (last .answers) b);
           some = rw sized (positive (last .nodes) (eqb-false _ _ some));
           nodes = rw sized (ltb-false _ _ room);
           choices = ltb-false _ _ d;
           places = rw (waiting-sized listed) listed;
-          heap = sound-heap S (last .choices) (m .nodes) h (heap-full S (m .nodes) (last .nodes)) all;
-          entries = taken-all (SoundEntry (last .choices) h) (last .waiting) (m .list) (omega (arith, listed, places-there))
-              (λ i lt. entry-sound (last .choices) (last .nodes) h (getD (m .list) i lentVacant) sized (each i lt) .0);
+          heap = accepted-heap S (last .choices) (m .nodes) h (heap-full S (m .nodes) (last .nodes)) all;
+          entries = taken-all (AcceptedEntry (last .choices) h) (last .waiting) (m .list) (omega (arith, listed, places-there))
+              (λ i lt. entry-accepted (last .choices) (last .nodes) h (getD (m .list) i lentVacant) sized (each i lt) .0);
         };
       }
     where
@@ -213,25 +214,25 @@ module _ (S : Symbols) (last : Result) (fuel : ℕ) (m : Memory) where
       positive (suc n) other = omega arith
 
   -- what is accepted passes
-  accepted-judged : Accepted S last fuel m → judge S last fuel m ≡ got (stateIn S last m) 0
+  accepted-judged : AcceptedMemory S last fuel m → judge S last fuel m ≡ got (stateIn S last m) 0
   unfolding judge stateIn
   accepted-judged a =
-      let sound = a .sound in
-      let some : 0 < last .nodes = rw sized at (sound .some) in
-      let room : last .nodes ≤ roomsOf m .nodes = rw sized at (sound .nodes) in
+      let accepted = a .accepted in
+      let some : 0 < last .nodes = rw sized at (accepted .some) in
+      let room : last .nodes ≤ roomsOf m .nodes = rw sized at (accepted .nodes) in
       got-test _ _ (ltb mostFuel (last .turns + fuel)) _ (le-ltb _ _ (a .summed))
-      (got-test _ _ (ltb (last .turns) (last .answers)) _ (le-ltb (last .turns) (last .answers) (omega (arith, sound .counted)))
+      (got-test _ _ (ltb (last .turns) (last .answers)) _ (le-ltb (last .turns) (last .answers) (omega (arith, accepted .counted)))
       (got-test _ _ (eqb (last .nodes) 0 || ltb (roomsOf m .nodes) (last .nodes)) _
       (none-or (eqb (last .nodes) 0) (ltb (roomsOf m .nodes) (last .nodes)) (ne-eqb (last .nodes) 0 (λ q. omega (arith, q))) (le-ltb _ _ room))
-      (got-test _ _ (ltb mostChoices (last .choices)) _ (le-ltb _ _ (sound .choices))
+      (got-test _ _ (ltb mostChoices (last .choices)) _ (le-ltb _ _ (accepted .choices))
       (got-test _ _ (ltb (roomsOf m .places) (last .waiting)) _ (le-ltb _ _ (a .listed))
       (got-first 6 (badNode S (last .choices) (m .nodes) h) 0 (last .nodes) _
       (λ n lt. ap (badNode S (last .choices) (m .nodes) h) (omega arith)
-      ∙ good-node S (last .choices) (m .nodes) h (heap-full S (m .nodes) (last .nodes)) (sound .heap) n (a .kinds n lt))
+      ∙ good-node S (last .choices) (m .nodes) h (heap-full S (m .nodes) (last .nodes)) (accepted .heap) n (a .kinds n lt))
       (got-first (6 + mostNodes) (λ i. badEntry (last .choices) (last .nodes) (getD (m .list) i lentVacant)) 0 (last .waiting) _
       (λ i lt. ap (λ (j : ℕ). badEntry (last .choices) (last .nodes) (getD (m .list) j lentVacant)) (omega arith)
-      ∙ sound-entry (last .choices) (last .nodes) h (getD (m .list) i lentVacant) sized
-      (all-taken (SoundEntry (last .choices) h) (last .waiting) (m .list) (omega (arith, a .listed, places-there)) (sound .entries) i lt) (a .sides i lt))
+      ∙ accepted-entry (last .choices) (last .nodes) h (getD (m .list) i lentVacant) sized
+      (all-taken (AcceptedEntry (last .choices) h) (last .waiting) (m .list) (omega (arith, a .listed, places-there)) (accepted .entries) i lt) (a .sides i lt))
       refl))))))
 
   -- EXACTLY those states are accepted.

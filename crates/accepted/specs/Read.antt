@@ -11,7 +11,7 @@ use Rattle.nodes.specs.Nodes.{Node, apply, choice, fail, forward, Heap}
 use Rattle.nodes.specs.Numbers.{kindIn, labelIn, arrowIn}
 use Rattle.machine.specs.Turn.{State}
 use Rattle.machine.specs.Run.{Memory, Result}
-use Rattle.rewriting.proofs.Lists.{firsts}
+use Rattle.rewriting.specs.Lists.{firsts}
 use Rattle.sorts.specs.Sorts.{argumentsOf}
 
 -- "kind (0 apply, 1 choice, 2 fail, 3 forward)": the node by its kind. Only the numbers that the kind and the symbol use are read. An unknown

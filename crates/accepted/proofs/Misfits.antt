@@ -14,10 +14,10 @@ use Rattle.symbols.specs.Symbols.{Symbols}
 use Rattle.nodes.specs.Nodes.{Node, apply, choice, fail, forward, Heap, at}
 use Rattle.rewriting.proofs.Heaps.{apply≢fail, forward≢fail, choice≢fail}
 use Rattle.sorts.specs.Sorts.{sortOf}
-use Rattle.sound.specs.Sound.{Meets}
-use Rattle.sound.specs.Faults.{misfitIn, misfit}
-use Rattle.sound.proofs.Circles.{solids, solids-set, solids-le}
-use Rattle.sound.proofs.Reaches.{or-split, or-left, or-right}
+use Rattle.accepted.specs.Accepted.{Meets}
+use Rattle.accepted.specs.Faults.{misfitIn, misfit}
+use Rattle.accepted.proofs.Circles.{solids, solids-set, solids-le}
+use Rattle.accepted.proofs.Reaches.{or-split, or-left, or-right}
 
 -- an apply of another sort is met
 pub record Misfit (S : Symbols) (h : Heap) (n s : ℕ) : Type 0 where

@@ -1,4 +1,4 @@
--- A sound state that is left in lent memory reads back to the same state, and is accepted.
+-- A accepted state that is left in lent memory reads back to the same state, and is accepted.
 use mathlib.Core.List.{List, [], _∷_, map, append-assoc}
 use mathlib.Core.Path.{_≡_, refl, sym, ap, subst, _∙_}
 use Prim.Native.Nat.{ℕ, zero, suc, _+_, _≤_, _<_}
@@ -18,15 +18,16 @@ use Rattle.nodes.specs.Lies.{Leads, Lies}
 use Rattle.nodes.proofs.Lying.{kind-known, apply-kind, apply-label, apply-arrow, choice-kind, choice-label, choice-left, choice-right, fail-kind, forward-kind, forward-arrow}
 use Rattle.machine.specs.Turn.{State}
 use Rattle.machine.specs.Run.{Memory, Result, roomsOf, over, listFor}
-use Rattle.rewriting.proofs.Heaps.{ArrowsBelow}
-use Rattle.rewriting.proofs.Lists.{All, all-anywhere, firsts}
+use Rattle.rewriting.specs.Heaps.{ArrowsBelow}
+use Rattle.rewriting.specs.Lists.{All, firsts}
+use Rattle.rewriting.proofs.Lists.{all-anywhere}
 use Rattle.sorts.specs.Sorts.{argumentsOf}
-use Rattle.sound.specs.Sound.{Argued, SoundHeap, SoundEntry, Sound}
-use Rattle.sound.specs.Read.{nodeBy, nodeIn, heapIn, entryIn, stateIn}
-use Rattle.sound.specs.Accepts.{OneSided, Accepted}
-use Rattle.sound.specs.Left.{afresh, Left, Narrow}
-use Rattle.sound.proofs.Rows.{row-length}
-use Rattle.sound.proofs.OneSide.{words-once}
+use Rattle.accepted.specs.Accepted.{Argued, AcceptedNodes, AcceptedEntry, AcceptedState}
+use Rattle.accepted.specs.Read.{nodeBy, nodeIn, heapIn, entryIn, stateIn}
+use Rattle.accepted.specs.Accepts.{OneSided, AcceptedMemory}
+use Rattle.accepted.specs.LeftIn.{afresh, LeftIn, Narrow}
+use Rattle.accepted.proofs.Rows.{row-length}
+use Rattle.accepted.proofs.OneSide.{words-once}
 
 -- a list is its elements one by one
 firsts-is : {A : Type 0} (l : List A) (f : ℕ → A) (d : A) → ((i : ℕ) → i < length l → f i ≡ getD l i d) → firsts (length l) f ≡ l
@@ -58,13 +59,13 @@ module _ (S : Symbols) {h : Heap} {m : List ℕ} (lies : Lies h m) (full : (n f 
   unfolding heapIn
   heap-back = firsts-is h (nodeIn S m) fail node-back
 
--- a sound heap lies where its numbers come first
-sound-lies : (S : Symbols) (k : ℕ) (h : Heap) (old : List ℕ) → Narrow S → 0 < length h → SoundHeap S k h → Lies h (over (heapNumbers h) old)
+-- an accepted heap lies where its numbers come first
+accepted-lies : (S : Symbols) (k : ℕ) (h : Heap) (old : List ℕ) → Narrow S → 0 < length h → AcceptedNodes S k h → Lies h (over (heapNumbers h) old)
 unfolding over
-sound-lies S k h old narrow some sound = record {
+accepted-lies S k h old narrow some accepted = record {
   rest = drop (length (heapNumbers h)) old;
   numbers = refl;
-  leads = λ n lt. leads (at h n) (sound .range n) (sound .argued n);
+  leads = λ n lt. leads (at h n) (accepted .range n) (accepted .argued n);
 }
   where
     leads : (x : Node) → ArrowsBelow (length h) x → Argued S h x → Leads (length h) x
@@ -74,8 +75,8 @@ sound-lies S k h old narrow some sound = record {
     leads (forward t) below argued = below
 
 -- and each apply has all its arguments
-sound-full : (S : Symbols) (k : ℕ) (h : Heap) → SoundHeap S k h → (n f : ℕ) (xs : List ℕ) → at h n ≡ apply f xs → length xs ≡ length (argumentsOf S f)
-sound-full S k h sound n f xs is = let (known, row) : Argued S h (apply f xs) = rw is at (sound .argued n) in row-length row
+accepted-full : (S : Symbols) (k : ℕ) (h : Heap) → AcceptedNodes S k h → (n f : ℕ) (xs : List ℕ) → at h n ≡ apply f xs → length xs ≡ length (argumentsOf S f)
+accepted-full S k h accepted n f xs is = let (known, row) : Argued S h (apply f xs) = rw is at (accepted .argued n) in row-length row
 
 -- ---- entries
 
@@ -88,7 +89,7 @@ entry-back e sized =
     rw decisions refl
 
 -- so are all that wait
-entries-back : {k : ℕ} {h : Heap} (waiting : List Entry) → All (SoundEntry k h) waiting → map entryIn (map lent waiting) ≡ waiting
+entries-back : {k : ℕ} {h : Heap} (waiting : List Entry) → All (AcceptedEntry k h) waiting → map entryIn (map lent waiting) ≡ waiting
 entries-back [] All.none = refl
 entries-back (e ∷ waiting) (All.more s ss) = let here = entry-back e (s .sized) in let rest = entries-back waiting ss in cc
 
@@ -99,7 +100,7 @@ listed-first places waiting old =
     rw (append-assoc, ← length-map waiting lent) (take-append-seam (map lent waiting) _)
 
 -- each of them says one side at most
-sided : {k : ℕ} {h : Heap} (waiting : List Entry) → All (SoundEntry k h) waiting → (i : ℕ) → i < length waiting → OneSided (getD (map lent waiting) i lentVacant)
+sided : {k : ℕ} {h : Heap} (waiting : List Entry) → All (AcceptedEntry k h) waiting → (i : ℕ) → i < length waiting → OneSided (getD (map lent waiting) i lentVacant)
 unfolding lent
 sided [] All.none i lt = absurd (omega arith)
 sided (e ∷ waiting) (All.more s ss) zero lt = λ j b l r. words-once (e .decisions) j (s .sized) b l r
@@ -107,37 +108,37 @@ sided (e ∷ waiting) (All.more s ss) (suc i) lt = sided waiting ss i (omega ari
 
 -- ---- the state
 
-module _ (S : Symbols) (narrow : Narrow S) (before : ℕ) (s : State) (last : Result) (m : Memory) (left : Left before s last m)
-    (sound : Sound S (roomsOf m) before s) where
+module _ (S : Symbols) (narrow : Narrow S) (before : ℕ) (s : State) (last : Result) (m : Memory) (left : LeftIn before s last m)
+    (accepted : AcceptedState S (roomsOf m) before s) where
   lies : Lies (s .heap) (m .nodes)
-  lies = rw (left .nodes) (sound-lies S (s .choices) (s .heap) (left .oldNodes) narrow (sound .some) (sound .heap))
+  lies = rw (left .nodes) (accepted-lies S (s .choices) (s .heap) (left .oldNodes) narrow (accepted .some) (accepted .heap))
 
   -- it is read back
   pub state-back : stateIn S last m ≡ afresh s
   unfolding stateIn
   state-back =
       let heap : heapIn S (m .nodes) (last .nodes) ≡ s .heap =
-      rw (left .used) (heap-back S lies (sound-full S (s .choices) (s .heap) (sound .heap))) in
+      rw (left .used) (heap-back S lies (accepted-full S (s .choices) (s .heap) (accepted .heap))) in
       let first : take (last .waiting) (m .list) ≡ map lent (s .waiting) =
       rw (left .waiting) (ap (take (length (s .waiting))) (left .list) ∙ listed-first (roomsOf m .places) (s .waiting) (left .oldList)) in
-      let waiting : map entryIn (take (last .waiting) (m .list)) ≡ s .waiting = ap (map entryIn) first ∙ entries-back (s .waiting) (sound .entries) in
+      let waiting : map entryIn (take (last .waiting) (m .list)) ≡ s .waiting = ap (map entryIn) first ∙ entries-back (s .waiting) (accepted .entries) in
       rw (heap, waiting, left .choices, left .turns) refl
 
   -- EVERY STATE THAT IS LEFT SO is accepted, with fuel that fits
-  pub left-accepted : (fuel : ℕ) → s .turns + fuel ≤ mostFuel → Accepted S last fuel m
+  pub left-accepted : (fuel : ℕ) → s .turns + fuel ≤ mostFuel → AcceptedMemory S last fuel m
   left-accepted fuel fits = record {
     summed = rw (left .turns) fits;
-    listed = rw (left .waiting) (sound .places);
+    listed = rw (left .waiting) (accepted .places);
     kinds = λ n lt. kind-known lies n (rw (left .used) at lt);
     sides = λ i lt. one-sided i (rw (left .waiting) at lt);
-    sound = rw state-back (record {
-      counted = omega (arith, left .answers, sound .counted);
-      some = sound .some;
-      nodes = sound .nodes;
-      choices = sound .choices;
-      places = sound .places;
-      heap = sound .heap;
-      entries = sound .entries;
+    accepted = rw state-back (record {
+      counted = omega (arith, left .answers, accepted .counted);
+      some = accepted .some;
+      nodes = accepted .nodes;
+      choices = accepted .choices;
+      places = accepted .places;
+      heap = accepted .heap;
+      entries = accepted .entries;
     });
   }
     where
@@ -146,4 +147,4 @@ module _ (S : Symbols) (narrow : Narrow S) (before : ℕ) (s : State) (last : Re
           let same : getD (m .list) i lentVacant ≡ getD (map lent (s .waiting)) i lentVacant =
           sym (getD-take (length (s .waiting)) (m .list) i lentVacant lt)
           ∙ ap (λ (l : List LentEntry). getD l i lentVacant) (ap (take (length (s .waiting))) (left .list) ∙ listed-first (roomsOf m .places) (s .waiting) (left .oldList)) in
-          rw same (sided (s .waiting) (sound .entries) i lt)
+          rw same (sided (s .waiting) (accepted .entries) i lt)

@@ -1,6 +1,7 @@
-pub mod Sound
+pub mod Accepted
+pub mod Turnable
 pub mod Read
 pub mod Faults
 pub mod GoOn
 pub mod Accepts
-pub mod Left
+pub mod LeftIn

@@ -12,16 +12,16 @@ use Rattle.reading.specs.Reading.{got}
 use Rattle.symbols.specs.Symbols.{Symbols}
 use Rattle.nodes.specs.Numbers.{kindIn}
 use Rattle.machine.specs.Run.{Memory, Result, roomsOf}
-use Rattle.sound.specs.Sound.{Sound}
-use Rattle.sound.specs.Read.{stateIn}
-use Rattle.sound.specs.GoOn.{judge}
+use Rattle.accepted.specs.Accepted.{AcceptedState}
+use Rattle.accepted.specs.Read.{stateIn}
+use Rattle.accepted.specs.GoOn.{judge}
 
 -- "each open, left or right": no choice is both
 abbrev pub OneSided : LentEntry → Type 0
 OneSided x = (i : ℕ) → i < mostChoices → isSet (x .words) (2 * i) ≡ true → isSet (x .words) (2 * i + 1) ≡ true → ⊥
 
--- the numbers and entries mean a state, and it is sound
-pub record Accepted (S : Symbols) (last : Result) (fuel : ℕ) (m : Memory) : Type 0 where
+-- the numbers and entries mean a state, and it is accepted
+pub record AcceptedMemory (S : Symbols) (last : Result) (fuel : ℕ) (m : Memory) : Type 0 where
   -- "A sum of turns and fuel past 32 bits is 30."
   pub summed : last .turns + fuel ≤ mostFuel
   -- "the counts fit the room": of the list, as far as it is there
@@ -29,8 +29,8 @@ pub record Accepted (S : Symbols) (last : Result) (fuel : ℕ) (m : Memory) : Ty
   -- "kinds .. are known"
   pub kinds : (n : ℕ) → n < last .nodes → kindIn (m .nodes) n ≤ 3
   pub sides : (i : ℕ) → i < last .waiting → OneSided (getD (m .list) i lentVacant)
-  pub sound : Sound S (roomsOf m) (last .answers) (stateIn S last m)
+  pub accepted : AcceptedState S (roomsOf m) (last .answers) (stateIn S last m)
 
 -- "It accepts exactly those states"
 abbrev pub Exact : Symbols → Result → ℕ → Memory → Type 0
-Exact S last fuel m = Accepted S last fuel m ↔ (judge S last fuel m ≡ got (stateIn S last m) 0)
+Exact S last fuel m = AcceptedMemory S last fuel m ↔ (judge S last fuel m ≡ got (stateIn S last m) 0)

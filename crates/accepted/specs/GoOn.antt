@@ -12,8 +12,8 @@ use Rattle.book.specs.Rules.{bookOf}
 use Rattle.book.specs.Admission.{readBook}
 use Rattle.machine.specs.Turn.{State, turns}
 use Rattle.machine.specs.Run.{Memory, Result, Outcome, roomsOf, refusedAt, endedAs}
-use Rattle.sound.specs.Read.{heapIn, stateIn}
-use Rattle.sound.specs.Faults.{badNode, badEntry}
+use Rattle.accepted.specs.Read.{heapIn, stateIn}
+use Rattle.accepted.specs.Faults.{badNode, badEntry}
 
 -- ---- the check
 

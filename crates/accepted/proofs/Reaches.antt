@@ -12,10 +12,10 @@ use lib.ListN.{length, set}
 use lib.Seq.{getD-set-other, getD-set-same}
 use Rattle.nodes.specs.Nodes.{Node, apply, choice, fail, forward, Heap, at}
 use Rattle.rewriting.proofs.Heaps.{there}
-use Rattle.meaning.proofs.Finite.{In, first, later, Arrow, argument, leftSide, rightSide, target}
-use Rattle.sound.specs.Sound.{Path, one, more}
-use Rattle.sound.specs.Faults.{someOf, arrowsOf, reachesIn, returns}
-use Rattle.sound.proofs.Circles.{solids, solids-set, solids-le, arrow-back}
+use Rattle.rewriting.specs.Paths.{In, first, later, Arrow, argument, leftSide, rightSide, target}
+use Rattle.accepted.specs.Accepted.{Path, one, more}
+use Rattle.accepted.specs.Faults.{someOf, arrowsOf, reachesIn, returns}
+use Rattle.accepted.proofs.Circles.{solids, solids-set, solids-le, arrow-back}
 
 -- ---- tests
 
