@@ -1,12 +1,12 @@
 // Reads a table of books and questions from standard input and prints, for each, the number and the place of its refusal, 0 0 if
 // both are admitted, and its label. tools/admission_cases.py makes the table and says what document 01 has for each row.
-ghost use Prim.Native.Nat.{_+_, _<_, _≤_};
+ghost use Prim.Native.Nat.{_<_, _≤_};
 ghost use lib.ListN.{length};
 use book::read_book;
 use book::read_question;
 use reading::Reading;
-use reading::number;
 use reading::part_of;
+use tables::behind;
 
 fn main() {
     let mut input = [0u8; 262144];
@@ -23,17 +23,9 @@ fn show_all(input: &[u8])
     }
 }
 
-// The place behind a field: a two-byte length, then what it counts.
-fn behind(input: &[u8], p: usize) -> usize
-    requires { ⌜ p ≤ 1000000 ⌝ }
-    ensures { λ r. ⌜ (p < r) × (r ≤ p + 65537) ⌝ }
-{
-    p + 2 + number(input, p)
-}
-
 // One row: its label, its book and its question, each behind its length. The answer is the place behind it.
 fn show_row(input: &[u8], p: usize) -> usize
-    requires { ⌜ p ≤ 262144 ⌝ }
+    requires { ⌜ (p < length (now input)) × (length (now input) ≤ 262144) ⌝ }
     ensures { λ r. ⌜ p < r ⌝ }
 {
     let b = behind(input, p);

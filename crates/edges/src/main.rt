@@ -8,12 +8,17 @@ use limits::Entry;
 use limits::Limits;
 use limits::Side;
 use lines::show_answers;
-use lines::show_item;
 use lines::show_result;
 use reading::number;
 use reading::part_of;
 use run::Owned;
 use run::run_owned;
+use tables::at_most;
+use tables::behind;
+use tables::mixed;
+use tables::show_item;
+use tables::sum_of_bytes;
+use tables::sum_of_numbers;
 
 // How long each memory is; the list has Owned::HELD places.
 const NUMBERS: usize = 32010;
@@ -35,17 +40,9 @@ fn show_all(input: &[u8])
     }
 }
 
-// The place behind a field: a two-byte length, then what it counts.
-fn behind(input: &[u8], p: usize) -> usize
-    requires { ⌜ p ≤ 1000000 ⌝ }
-    ensures { λ r. ⌜ (p < r) × (r ≤ p + 65537) ⌝ }
-{
-    p + 2 + number(input, p)
-}
-
 // One row: its label, its sizes and fuel (ten bytes), its book and its question. The answer is the place behind it.
 fn show_row(input: &[u8], p: usize) -> usize
-    requires { ⌜ p ≤ 65536 ⌝ }
+    requires { ⌜ (p < length (now input)) × (length (now input) ≤ 65536) ⌝ }
     ensures { λ r. ⌜ p < r ⌝ }
 {
     let s = behind(input, p);
@@ -85,80 +82,33 @@ fn show_run<'a>(given: &'a [u8], book: &'a [u8], question: &'a [u8]) {
     show_left(&nodes, after, &bytes, outcome.answers);
 }
 
-fn at_most(n: usize, most: usize) -> usize
-    ensures { λ r. ⌜ r ≤ most ⌝ }
-{
-    if most < n { most } else { n }
-}
-
-// A checksum with one more number in it.
-fn with_number(c: u64, v: u64) -> u64
-    requires { ⌜ (c < 4294967296) × (v < 65536) ⌝ }
-    ensures { λ r. ⌜ r < 4294967296 ⌝ }
-{
-    (c * 31 + v) % 4294967296
-}
-
-fn sum_of_numbers(nodes: &[u16; NUMBERS]) -> u64 {
-    let mut c: u64 = 0;
-    let mut i: usize = 0;
-    while i < NUMBERS {
-        c = with_number(c, wide_number(nodes[i]));
-        i += 1;
-    }
-    c
-}
-
-fn wide_number(v: u16) -> u64
-    ensures { λ r. ⌜ r < 65536 ⌝ }
-{
-    v as u64
-}
-
-fn sum_of_bytes(bytes: &[u8; BYTES]) -> u64 {
-    let mut c: u64 = 0;
-    let mut i: usize = 0;
-    while i < BYTES {
-        c = with_number(c, wide_byte(bytes[i]));
-        i += 1;
-    }
-    c
-}
-
-fn wide_byte(v: u8) -> u64
-    ensures { λ r. ⌜ r < 65536 ⌝ }
-{
-    v as u64
-}
-
-fn sum_of_list(list: [Entry; Owned::HELD]) -> u64 {
-    let mut c: u64 = 0;
+fn sum_of_list(list: [Entry; Owned::HELD]) -> u32 {
+    let mut c: u32 = 0;
     let mut i: usize = 0;
     while i < Owned::HELD {
         let e = list[i];
-        c = with_decisions(with_number(c, wide_number(e.root)), e.decisions());
+        c = with_decisions(mixed(c, wide(e.root)), e.decisions());
         i += 1;
     }
     c
 }
 
 // A checksum with the 256 decisions of a set in it.
-fn with_decisions(c: u64, d: Decisions) -> u64
-    requires { ⌜ c < 4294967296 ⌝ }
-    ensures { λ r. ⌜ r < 4294967296 ⌝ }
-{
+fn with_decisions(c: u32, d: Decisions) -> u32 {
     let mut sum = c;
     let mut i: usize = 0;
     while i < Limits::CHOICES {
-        sum = with_number(sum, number_of(d.side((i % 256) as u8)));
+        sum = mixed(sum, number_of(d.side((i % 256) as u8)));
         i += 1;
     }
     sum
 }
 
-fn number_of(side: Side) -> u64
-    ensures { λ r. ⌜ r < 65536 ⌝ }
-{
+fn wide(root: u16) -> u32 {
+    root as u32
+}
+
+fn number_of(side: Side) -> u32 {
     match side {
         Side::Open => 0,
         Side::Left => 1,
@@ -174,11 +124,11 @@ fn show_left<'a>(
     answers: usize,
 ) {
     io::write_all(1, b"; nodes");
-    show_item(sum_of_numbers(nodes));
+    show_item(sum_of_numbers(nodes) as u64);
     io::write_all(1, b" list");
-    show_item(sum_of_list(list));
+    show_item(sum_of_list(list) as u64);
     io::write_all(1, b" bytes");
-    show_item(sum_of_bytes(bytes));
+    show_item(sum_of_bytes(bytes) as u64);
     io::write_all(1, b"\n");
     show_answers(bytes, answers);
 }

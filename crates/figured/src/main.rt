@@ -5,6 +5,10 @@ ghost use lib.ListN.{length};
 use figures::add_figures;
 use reading::number;
 use reading::part_of;
+use tables::at_most;
+use tables::behind;
+use tables::mixed;
+use tables::show_item;
 
 // How many totals there are, lent or not.
 const TOTALS: usize = 1100;
@@ -24,17 +28,9 @@ fn show_all(input: &[u8])
     }
 }
 
-// The place behind a field: a two-byte length, then what it counts.
-fn behind(input: &[u8], p: usize) -> usize
-    requires { ⌜ p ≤ 1000000 ⌝ }
-    ensures { λ r. ⌜ (p < r) × (r ≤ p + 65537) ⌝ }
-{
-    p + 2 + number(input, p)
-}
-
 // One row: how many totals are lent and the label, the totals before, and the books. The answer is the place behind it.
 fn show_row(input: &[u8], p: usize) -> usize
-    requires { ⌜ p ≤ 131072 ⌝ }
+    requires { ⌜ (p < length (now input)) × (length (now input) ≤ 131072) ⌝ }
     ensures { λ r. ⌜ p < r ⌝ }
 {
     let a = behind(input, p);
@@ -72,14 +68,8 @@ fn show_figures<'a>(lent: usize, given: &'a [u8], books: &'a [u8]) {
     io::write_all(1, b";");
     show_first(&totals);
     io::write_all(1, b"; all");
-    show_item(sum_of(&totals));
+    show_item(sum_of(&totals) as u64);
     io::write_all(1, b"\n");
-}
-
-fn at_most(n: usize, most: usize) -> usize
-    ensures { λ r. ⌜ r ≤ most ⌝ }
-{
-    if most < n { most } else { n }
 }
 
 // The first five totals.
@@ -96,24 +86,11 @@ fn show_total(t: u32) {
     show_item(t as u64);
 }
 
-fn show_item(n: u64) {
-    io::write_all(1, b" ");
-    io::print_decimal(1, n);
-}
-
-// A checksum with one more total in it.
-fn with_total(c: u64, t: u32) -> u64
-    requires { ⌜ c < 4294967296 ⌝ }
-    ensures { λ r. ⌜ r < 4294967296 ⌝ }
-{
-    (c * 31 + t as u64) % 4294967296
-}
-
-fn sum_of(totals: &[u32; TOTALS]) -> u64 {
-    let mut c: u64 = 0;
+fn sum_of(totals: &[u32; TOTALS]) -> u32 {
+    let mut c: u32 = 0;
     let mut f: usize = 0;
     while f < TOTALS {
-        c = with_total(c, totals[f]);
+        c = mixed(c, totals[f]);
         f += 1;
     }
     c

@@ -1,6 +1,6 @@
 // Reads books with questions from standard input and runs each question, over memory that is cleared first: the 500 jobs by which the speed is measured
 // (request L13). For each it prints the seven numbers of the result. tools/job_cases.py makes the jobs, tools/speed measures.
-ghost use Prim.Native.Nat.{_+_, _<_, _≤_};
+ghost use Prim.Native.Nat.{_+_, _<_, _≤_, min};
 ghost use lib.ListN.{length};
 use limits::Entry;
 use limits::Limits;
@@ -9,6 +9,7 @@ use reading::number;
 use reading::part_of;
 use run::Owned;
 use run::run_owned;
+use tables::behind;
 
 // The room for answers.
 const ANSWER_BYTES: usize = 16384;
@@ -28,17 +29,9 @@ fn run_all(input: &[u8])
     }
 }
 
-// The place behind a field: a two-byte length, then what it counts.
-fn behind(input: &[u8], p: usize) -> usize
-    requires { ⌜ p ≤ 10000000000 ⌝ }
-    ensures { λ r. ⌜ (p < r) × (r ≤ p + 65537) ⌝ }
-{
-    p + 2 + number(input, p)
-}
-
 // A book, how many questions it is asked, and these with their fuels: the place behind them.
 fn run_book(input: &[u8], p: usize) -> usize
-    requires { ⌜ p ≤ 131072 ⌝ }
+    requires { ⌜ (p < length (now input)) × (length (now input) ≤ 131072) ⌝ }
     ensures { λ r. ⌜ p < r ⌝ }
 {
     let first = behind(input, p);
@@ -54,8 +47,8 @@ fn run_book(input: &[u8], p: usize) -> usize
 
 // One job: a question and its fuel at p. The answer is the place behind them.
 fn run_job<'a>(book: &'a [u8], input: &'a [u8], p: usize) -> usize
-    requires { ⌜ p ≤ 10000000000 ⌝ }
-    ensures { λ r. ⌜ (p < r) × (r ≤ p + 65541) ⌝ }
+    requires { ⌜ (p ≤ length (now input) + 4) × (length (now input) ≤ 131072) ⌝ }
+    ensures { λ r. ⌜ (min (length (now (input .entry))) (p + 1) ≤ r) × (r ≤ length (now (input .entry)) + 4) ⌝ }
 {
     let f = behind(input, p);
     let fuel = (number(input, f) * 65536 + number(input, f + 2)) as u32;

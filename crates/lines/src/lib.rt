@@ -3,12 +3,7 @@ ghost use Prim.Native.Nat.{_≤_};
 use reading::number;
 use reading::part_of;
 use run::Outcome;
-
-// A number behind what stands before it in its line.
-pub fn show_item(n: u64) {
-    io::write_all(1, b" ");
-    io::print_decimal(1, n);
-}
+use tables::show_item;
 
 // The seven numbers of a result.
 pub fn show_result(r: Outcome) {

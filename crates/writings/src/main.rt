@@ -4,6 +4,10 @@ ghost use Prim.Native.Nat.{_+_, _<_, _≤_};
 ghost use lib.ListN.{length};
 use reading::number;
 use reading::part_of;
+use tables::at_most;
+use tables::behind;
+use tables::show_item;
+use tables::sum_of_bytes;
 use writer::write_book;
 
 // How long each memory is.
@@ -26,17 +30,9 @@ fn show_all(input: &[u8])
     }
 }
 
-// The place behind a field: a two-byte length, then what it counts.
-fn behind(input: &[u8], p: usize) -> usize
-    requires { ⌜ p ≤ 1000000 ⌝ }
-    ensures { λ r. ⌜ (p < r) × (r ≤ p + 65537) ⌝ }
-{
-    p + 2 + number(input, p)
-}
-
 // One row: the room lent and its label, and the numbers of its symbols and its trees. The answer is the place behind it.
 fn show_row(input: &[u8], p: usize) -> usize
-    requires { ⌜ p ≤ 65536 ⌝ }
+    requires { ⌜ (p < length (now input)) × (length (now input) ≤ 65536) ⌝ }
     ensures { λ r. ⌜ p < r ⌝ }
 {
     let a = behind(input, p);
@@ -134,31 +130,7 @@ fn show_writing<'a>(room: usize, symbols: &'a [u8], trees: &'a [u8]) {
     io::write_all(1, b"\n");
 }
 
-fn at_most(n: usize, most: usize) -> usize
-    ensures { λ r. ⌜ r ≤ most ⌝ }
-{
-    if most < n { most } else { n }
-}
-
-fn show_item(n: u64) {
-    io::write_all(1, b" ");
-    io::print_decimal(1, n);
-}
-
-// A checksum with one more byte in it.
-fn with_byte(c: u64, b: u8) -> u64
-    requires { ⌜ c < 4294967296 ⌝ }
-    ensures { λ r. ⌜ r < 4294967296 ⌝ }
-{
-    (c * 31 + b as u64) % 4294967296
-}
-
+// The checksum of the whole room, lent or not.
 fn sum_of(bytes: &[u8; BYTES]) -> u64 {
-    let mut c: u64 = 0;
-    let mut i: usize = 0;
-    while i < BYTES {
-        c = with_byte(c, bytes[i]);
-        i += 1;
-    }
-    c
+    sum_of_bytes(bytes) as u64
 }

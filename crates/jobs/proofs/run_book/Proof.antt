@@ -1,11 +1,12 @@
--- `run_book` meets its contract: one question fewer is left after each job, and no job is longer than a question with its fuel can be.
-use Prim.Native.Nat.{_+_, _-_, _*_, _<_, _≤_}
+-- `run_book` meets its contract: one question fewer is left after each job, and no job leads further than its fuel behind the input.
+use Prim.Native.Nat.{_+_, _-_, _<_, _≤_}
+use lib.ListN.{length}
 use borrow.Author.Needs.{needs}
 use Rattle.jobs.proofs.run_book.Statement.{statement}
 use Rattle.jobs.proofs.run_book.Tie as tie
 
 abbrev Inv-loop : tie.InvT-loop
-Inv-loop input p first count q₀ i₀ q i = (p < q) × (q ≤ 200000 + 65541 * i)
+Inv-loop input p first count q₀ i₀ q i = (p < length input) × (p < q) × (q ≤ length input + 4) × (length input ≤ 131072)
 
 abbrev μ-loop : tie.MeasureT-loop
 μ-loop input p first count q₀ i₀ q i = count - i
