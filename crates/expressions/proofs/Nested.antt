@@ -22,6 +22,10 @@ abbrev pub behind : ℕ → Reading ℕ → ℕ
 behind e (got v n) = n
 behind e (refusal c n) = e
 
+pub behind-further : (e p q : ℕ) (r : Reading ℕ) → ((v n : ℕ) → r ≡ got v n → q ≤ n) → p < q → p < e → p < behind e r
+behind-further e p q (got v n) on h there = omega (arith, on v n refl)
+behind-further e p q (refusal c n) on h there = there
+
 -- a body behind a first that was read, and behind one that was refused
 pub body-read : (expr : ExprReader) (sort v n : ℕ) {r first : Reading ℕ} → first ≡ got v n → r ≡ keeping leftOf (expr sort v n) → r ≡ bodyWith expr sort first
 unfolding bodyWith _then_
@@ -77,6 +81,7 @@ module _ (bs : List ℕ) (base : ℕ) (S : Symbols) (e : ℕ) (vars : List ℕ) 
     pub place : q ≡ p + 2 * count + 2
     pub whole : (f : ℕ) → e ≤ p + 1 + f → Whole f ≡ outward f (suc count) r
     pub onward : (v n : ℕ) → r ≡ got v n → q ≤ n
+    pub inside : q ≤ e
 
   -- what stands in the shared part at q, whose codes and sort bytes are in order
   pub record Within (q : ℕ) : Type 0 where
@@ -100,42 +105,43 @@ module _ (bs : List ℕ) (base : ℕ) (S : Symbols) (e : ℕ) (vars : List ℕ) 
   pub inward-within : {q t : ℕ} → Inward q → versionOf bs ≡ 2 → length vars < mostVariables → t ≡ getD bs (q + 1) 0 → q + 2 ≤ e → t ≤ lastSort → Within (q + 2)
   unfolding outward body asked
   inward-within {q} {t} at second few byte there inside = record {
-      count = at .count;
-      place = omega (arith, at .place);
-      whole = λ f h.
-          let k = at .count in
-          let named : t ≡ asked (suc k) = byte ∙ ap (λ (n : ℕ). getD bs n 0) (omega (arith, at .place)) in
-          at .whole f h ∙ ap (outward f k)
-          (shared-within bs base S e (exprAt bs base S e (f - k)) vars (asked k) left q second few byte there inside
-          ∙ ap (λ (s : ℕ). bodyWith (exprAt bs base S e (f - k) (vars ++ (s ∷ []))) (asked k) (keeping leftOf (exprAt bs base S e (f - k) vars s left (q + 2)))) named)
+    count = at .count;
+    place = omega (arith, at .place);
+    whole = λ f h.
+        let k = at .count in
+        let named : t ≡ asked (suc k) = byte ∙ ap (λ (n : ℕ). getD bs n 0) (omega (arith, at .place)) in
+        at .whole f h ∙ ap (outward f k)
+        (shared-within bs base S e (exprAt bs base S e (f - k)) vars (asked k) left q second few byte there inside
+        ∙ ap (λ (s : ℕ). bodyWith (exprAt bs base S e (f - k) (vars ++ (s ∷ []))) (asked k) (keeping leftOf (exprAt bs base S e (f - k) vars s left (q + 2)))) named);
   }
 
   -- what stands in it is a shared part again
   pub within-inward : {q : ℕ} → Within q → getD bs q 0 ≡ 4 → q < e → Inward q
   within-inward {q} at is there = record {
-      count = suc (at .count);
-      place = omega (arith, at .place);
-      whole = λ f h.
-          let k = at .count in
-          let less : pred (f - k) ≡ f - suc k = omega arith in
-          at .whole f h ∙ ap (λ (r : Reading (Left Expr)). outward f (suc k) (keeping leftOf r))
-          (expr-is-shared bs base S e vars (asked (suc k)) left q (f - k) (omega (arith, at .place)) there is
-          ∙ ap (λ (n : ℕ). sharedAt bs base S e (exprAt bs base S e n) vars (asked (suc k)) left q) less)
+    count = suc (at .count);
+    place = omega (arith, at .place);
+    whole = λ f h.
+        let k = at .count in
+        let less : pred (f - k) ≡ f - suc k = omega arith in
+        at .whole f h ∙ ap (λ (r : Reading (Left Expr)). outward f (suc k) (keeping leftOf r))
+        (expr-is-shared bs base S e vars (asked (suc k)) left q (f - k) (omega (arith, at .place)) there is
+        ∙ ap (λ (n : ℕ). sharedAt bs base S e (exprAt bs base S e n) vars (asked (suc k)) left q) less);
   }
 
   -- it is read
-  pub within-read : {q t : ℕ} {r : Reading ℕ} → Within q → t ≡ getD bs (q - 1) 0 → ((f : ℕ) → e ≤ q + f → r ≡ keeping leftOf (exprAt bs base S e f vars t left q)) → Outward q r
+  pub within-read : {q t : ℕ} {r : Reading ℕ} → Within q → q ≤ e → t ≡ getD bs (q - 1) 0 → ((f : ℕ) → e ≤ q + f → r ≡ keeping leftOf (exprAt bs base S e f vars t left q)) → Outward q r
   unfolding asked
-  within-read {q} {t} at byte read =
+  within-read {q} {t} at inside byte read =
       let k = at .count in
       let named : t ≡ asked (suc k) = byte ∙ ap (λ (n : ℕ). getD bs n 0) (omega (arith, at .place)) in
       record {
-      count = k;
-      place = at .place;
-      whole = λ f h.
-          at .whole f h ∙ ap (outward f (suc k)) (sym (read (f - k) (omega (arith, at .place)) ∙ ap (λ (s : ℕ). keeping leftOf (exprAt bs base S e (f - k) vars s left q)) named));
-      onward = λ v n is. expr-onward bs base S e vars t left q e (sym is ∙ read e (omega arith)) .1
-  }
+        count = k;
+        place = at .place;
+        whole = λ f h.
+            at .whole f h ∙ ap (outward f (suc k)) (sym (read (f - k) (omega (arith, at .place)) ∙ ap (λ (s : ℕ). keeping leftOf (exprAt bs base S e (f - k) vars s left q)) named));
+        onward = λ v n is. expr-onward bs base S e vars t left q e (sym is ∙ read e (omega arith)) .1;
+        inside = inside;
+      }
 
   -- a body behind what was read goes onward
   body-onward : (f : ℕ) (more : List ℕ) (s q : ℕ) (r : Reading ℕ) → ((v n : ℕ) → r ≡ got v n → q ≤ n)
@@ -159,17 +165,18 @@ module _ (bs : List ℕ) (base : ℕ) (S : Symbols) (e : ℕ) (vars : List ℕ) 
           let first : t ≡ asked (suc (suc k)) = first-byte ∙ ap (λ (n : ℕ). getD bs n 0) (omega arith) in
           let around : s ≡ asked (suc k) = body-byte ∙ ap (λ (n : ℕ). getD bs n 0) (omega arith) in
           record {
-          count = k;
-          place = omega arith;
-          whole = λ f h.
-              whole f h ∙ ap (outward f (suc k)) (sym (read (f - suc k) (λ v n is. omega (arith, at .onward v n is))
-              ∙ ap (λ (x : ℕ). bodyWith (exprAt bs base S e (f - suc k) (vars ++ (x ∷ []))) s r) first
-              ∙ ap (λ (x : ℕ). bodyWith (exprAt bs base S e (f - suc k) (vars ++ (asked (suc (suc k)) ∷ []))) x r) around));
-          onward = λ v n is. omega (arith, body-onward e (vars ++ (t ∷ [])) s q r (at .onward) v n (sym (read e (λ w m _. omega arith)) ∙ is))
-      }
+            count = k;
+            place = omega arith;
+            whole = λ f h.
+                whole f h ∙ ap (outward f (suc k)) (sym (read (f - suc k) (λ v n is. omega (arith, at .onward v n is))
+                ∙ ap (λ (x : ℕ). bodyWith (exprAt bs base S e (f - suc k) (vars ++ (x ∷ []))) s r) first
+                ∙ ap (λ (x : ℕ). bodyWith (exprAt bs base S e (f - suc k) (vars ++ (asked (suc (suc k)) ∷ []))) x r) around));
+            onward = λ v n is. omega (arith, body-onward e (vars ++ (t ∷ [])) s q r (at .onward) v n (sym (read e (λ w m _. omega arith)) ∙ is));
+            inside = omega (arith, at .inside);
+          }
 
   -- the outermost
-  pub outward-last : {q t : ℕ} {r next : Reading ℕ} → Outward q r → (p + 2 < q → ⊥) → t ≡ getD bs (p + 1) 0 → Body t sort r next → (f : ℕ) → e ≤ p + 1 + f → next ≡ Whole f
+  pub outward-last : {q t : ℕ} {r next : Reading ℕ} → Outward q r → q ≤ p + 2 → t ≡ getD bs (p + 1) 0 → Body t sort r next → (f : ℕ) → e ≤ p + 1 + f → next ≡ Whole f
   unfolding outward body asked
   outward-last {q} {t} {r} {next} at last byte read f h = by (at .count) (at .place) (at .whole f h)
     where
@@ -179,4 +186,4 @@ module _ (bs : List ℕ) (base : ℕ) (S : Symbols) (e : ℕ) (vars : List ℕ) 
           read f (λ v n is. omega (arith, at .onward v n is))
           ∙ sym (whole ∙ ap (λ (x : ℕ). bodyWith (exprAt bs base S e x (vars ++ (asked 1 ∷ []))) sort r) (sub-zero f)
           ∙ ap (λ (x : ℕ). bodyWith (exprAt bs base S e f (vars ++ (x ∷ []))) sort r) (sym named))
-      by (suc k) place whole = absurd (last (omega arith))
+      by (suc k) place whole = absurd (omega arith)
