@@ -1,5 +1,6 @@
 // Expressions: the reader of one and the reader of a row of them call each other, and the node allowance left falls. A shared part (edition
-// 2) is no node, so the bytes left are what bounds how deep they call each other.
+// 2) is no node: those that stand directly in each other are read by a loop, and a body binds a variable, of which there are few. So
+// however many bytes there are, the calls stand no deeper than the 64 nodes and 32 variables of a path let them.
 ghost use mathlib.Core.List.{[], _∷_, _++_};
 ghost use mathlib.Core.Path.{_≡_};
 ghost use Prim.Native.Nat.{ℕ, _+_, _<_, _≤_};
@@ -108,7 +109,7 @@ fn with_one_more(vars: &[u8], sort: u8) -> [u8; Limits::VARIABLES]
     more
 }
 
-// The body of a shared part of sort t, behind its first, with one variable more: the allowance left behind it. A refused first stays refused.
+// The body of a shared part of sort t, behind its first, with one variable more: the allowance left behind it, or the first's refusal.
 fn read_body(
     book: &[u8],
     at: &[u16],
@@ -133,8 +134,8 @@ fn read_body(
 }
 
 // A shared part, whose code stands at p, and the body behind it, in which it is one variable more: the allowance left behind them.
-// Shared parts may stand one directly in the other as deep as there are bytes, so no call is made for each: their codes and sort bytes
-// are read inward, then what stands in the innermost, then the bodies outward.
+// Shared parts may stand directly in each other as deep as there are bytes, so no call is made for each: their codes and sort bytes are
+// read inward, then what stands in the innermost, then the bodies outward.
 fn read_shared(
     book: &[u8],
     at: &[u16],
