@@ -75,6 +75,12 @@ module _ (bs : List ℕ) (base : ℕ) (S : Symbols) (e : ℕ) (vars : List ℕ) 
     pub place : q ≡ p + 2 * count
     pub whole : (f : ℕ) → e ≤ p + 1 + f → Whole f ≡ outward f count (keeping leftOf (sharedAt bs base S e (exprAt bs base S e (f - count)) vars (asked count) left q))
 
+  -- what stands in one, at q, whose sort byte is in order like those around it, is to be read
+  pub record Within (q : ℕ) : Type 0 where
+    pub count : ℕ
+    pub place : q ≡ p + 2 * count + 2
+    pub whole : (f : ℕ) → e ≤ p + 1 + f → Whole f ≡ outward f (suc count) (keeping leftOf (exprAt bs base S e (f - count) vars (asked (suc count)) left q))
+
   -- what stands in one, at q, is read, and the bodies of it and of those around it are to be
   pub record Outward (q : ℕ) (r : Reading ℕ) : Type 0 where
     pub count : ℕ
@@ -82,12 +88,6 @@ module _ (bs : List ℕ) (base : ℕ) (S : Symbols) (e : ℕ) (vars : List ℕ) 
     pub whole : (f : ℕ) → e ≤ p + 1 + f → Whole f ≡ outward f (suc count) r
     pub onward : (v n : ℕ) → r ≡ got v n → q ≤ n
     pub inside : q ≤ e
-
-  -- what stands in the shared part at q, whose codes and sort bytes are in order
-  pub record Within (q : ℕ) : Type 0 where
-    pub count : ℕ
-    pub place : q ≡ p + 2 * count + 2
-    pub whole : (f : ℕ) → e ≤ p + 1 + f → Whole f ≡ outward f (suc count) (keeping leftOf (exprAt bs base S e (f - count) vars (asked (suc count)) left q))
 
   -- at first none is around it
   pub inward-none : Inward p
@@ -129,7 +129,8 @@ module _ (bs : List ℕ) (base : ℕ) (S : Symbols) (e : ℕ) (vars : List ℕ) 
   }
 
   -- it is read
-  pub within-read : {q t : ℕ} {r : Reading ℕ} → Within q → q ≤ e → t ≡ getD bs (q - 1) 0 → ((f : ℕ) → e ≤ q + f → r ≡ keeping leftOf (exprAt bs base S e f vars t left q)) → Outward q r
+  pub within-read : {q t : ℕ} {r : Reading ℕ} → Within q → q ≤ e → t ≡ getD bs (q - 1) 0
+      → ((f : ℕ) → e ≤ q + f → r ≡ keeping leftOf (exprAt bs base S e f vars t left q)) → Outward q r
   unfolding asked
   within-read {q} {t} at inside byte read =
       let k = at .count in
