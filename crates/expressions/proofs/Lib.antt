@@ -1,3 +1,4 @@
 pub mod Extents
+pub mod Nested
 pub mod Parts
 pub mod Ways

@@ -22,6 +22,7 @@ use Rattle.symbols.specs.Table.{symbolIn, symbolsIn}
 use Rattle.symbols.proofs.Tables.{symbol-there, as-many}
 use Rattle.expressions.specs.Expressions.{Expr, noExprs, moreExprs}
 use Rattle.expressions.specs.ExpressionAt.{Left, leaving, leftOf, ExprReader, nodeAt, variableAt, rowWith, choiceAt, appliedAt, applyAt, sharedAt, codeAt, exprAt}
+use Rattle.expressions.specs.Bodies.{bodyWith}
 use Rattle.expressions.proofs.Extents.{expr-extent}
 
 -- what is made of what was read keeps the allowance
@@ -165,6 +166,14 @@ node-taken base (suc left) p more h = ap more (sym (sub-one (suc left)))
 pub body-bound : (more vars : List ℕ) (t : ℕ) → take (length vars + 1) more ≡ vars ++ (t ∷ []) → partOf more 0 (length vars + 1) ≡ vars ++ (t ∷ [])
 body-bound more vars t is = rw (sub-zero (length vars + 1)) is
 
+-- what is kept of a shared part is what is kept of its body, behind what is kept of its first
+kept-body : (t sort : ℕ) (first : Reading (Left Expr)) (expr : ExprReader)
+    → keeping leftOf (_then_ first λ a r. _then_ (expr sort (a .left) r) λ b u. got (leaving (b .left) (Expr.shared t (a .what) (b .what))) u)
+    ≡ bodyWith expr sort (keeping leftOf first)
+unfolding keeping _then_ bodyWith
+kept-body t sort (got a q) expr = left-made (Expr.shared t (a .what)) (expr sort (a .left) q)
+kept-body t sort (refusal c q) expr = refl
+
 -- A shared part and its body, with the reader of what stands within.
 module _ (bs : List ℕ) (base : ℕ) (S : Symbols) (e : ℕ) (expr : List ℕ → ExprReader) (vars : List ℕ) (sort left p : ℕ) where
   -- what the code keeps of it
@@ -210,20 +219,11 @@ module _ (bs : List ℕ) (base : ℕ) (S : Symbols) (e : ℕ) (expr : List ℕ �
         shared-sort same h = rw same (ap (keeping leftOf) (sym (to-sort ∙ failed-test _ _ _ (lt-ltb lastSort t h))))
 
         module _ (inside : t ≤ lastSort) where
-          -- the shared part is refused
-          pub shared-refused : {c q : ℕ} → refusal c q ≡ keeping leftOf (expr vars t left (p + 2)) → refusal c q ≡ SharedKept
-          unfolding keeping behind-sort
-          shared-refused first =
-              ap (keeping leftOf) (sym (to-sort ∙ passed _ _ (le-ltb lastSort t inside) ∙ then-refusal _ (kept-refusal leftOf (expr vars t left (p + 2)) first)))
-
           -- it is read, and the body behind it, with one variable more
-          pub shared-body : {v q : ℕ} {r : Reading ℕ} → got v q ≡ keeping leftOf (expr vars t left (p + 2))
-              → r ≡ keeping leftOf (expr (vars ++ (t ∷ [])) sort v q) → r ≡ SharedKept
+          pub shared-within : SharedKept ≡ bodyWith (expr (vars ++ (t ∷ []))) sort (keeping leftOf (expr vars t left (p + 2)))
           unfolding behind-sort
-          shared-body {q} first body =
-              let a = kept-got leftOf (expr vars t left (p + 2)) first in
-              rw (a .2) at body ∙ sym (ap (keeping leftOf) (to-sort ∙ passed _ _ (le-ltb lastSort t inside) ∙ then-got _ (a .1))
-              ∙ left-made (Expr.shared t (a .0 .what)) (expr (vars ++ (t ∷ [])) sort (a .0 .left) q))
+          shared-within =
+              ap (keeping leftOf) (to-sort ∙ passed _ _ (le-ltb lastSort t inside)) ∙ kept-body t sort (expr vars t left (p + 2)) (expr (vars ++ (t ∷ [])))
 
 module _ (bs : List ℕ) (base : ℕ) (S : Symbols) (e : ℕ) (vars : List ℕ) (sort left p : ℕ) where
   -- how reading goes on by the code that was found
@@ -283,6 +283,11 @@ module _ (bs : List ℕ) (base : ℕ) (S : Symbols) (e : ℕ) (vars : List ℕ) 
           → ((n : ℕ) → e ≤ p + 1 + n → r ≡ keeping leftOf (sharedAt bs base S e (exprAt bs base S e n) vars sort left p)) → r ≡ Kept
       unfolding codeAt
       expr-shared is read = read (pred f) (deeper (p + 1) (omega arith)) ∙ ap (keeping leftOf) (sym (by-code is))
+
+      -- and the definition has it so, one level deeper
+      pub expr-is-shared : getD bs p 0 ≡ 4 → exprAt bs base S e f vars sort left p ≡ sharedAt bs base S e within vars sort left p
+      unfolding codeAt
+      expr-is-shared is = by-code is
 
       -- an unknown code, or no node is left
       pub expr-refused : {b : ℕ} → b ≡ base → (getD bs p 0 ≡ 0 → ⊥) → (getD bs p 0 ≡ 4 → ⊥) → (getD bs p 0 ≤ 3 → left ≡ 0) → refusal (b + 4) p ≡ Kept

@@ -1,3 +1,4 @@
 pub mod Expressions
 pub mod ExpressionAt
 pub mod Whose
+pub mod Bodies

@@ -1,14 +1,17 @@
 // Expressions: the reader of one and the reader of a row of them call each other, and the node allowance left falls. A shared part (edition
-// 2) is no node, so the bytes left are what bounds how deep they call each other.
+// 2) is no node: those that stand directly in each other are read by a loop, and a body binds a variable, of which there are few. So
+// however many bytes there are, the calls stand no deeper than the 64 nodes and 32 variables of a path let them.
 ghost use mathlib.Core.List.{[], _∷_, _++_};
 ghost use mathlib.Core.Path.{_≡_};
 ghost use Prim.Native.Nat.{ℕ, _+_, _<_, _≤_};
 ghost use lib.ListN.{length, take, drop};
 ghost use Rattle.limits.specs.Sizes.{mostVariables};
 ghost use Rattle.reading.specs.Answer.{readingOf, keeping, baseOf, partOf};
+ghost use Rattle.reading.specs.Reading.{got};
 ghost use Rattle.symbols.specs.Table.{symbolsIn, argumentsOfAByte};
 ghost use Rattle.expressions.specs.ExpressionAt.{leftOf, variableAt, rowWith, appliedAt, sharedAt, exprAt, wholeAt};
 ghost use Rattle.expressions.specs.Whose.{whose};
+ghost use Rattle.expressions.specs.Bodies.{bodyWith};
 use limits::Limits;
 use reading::Asker;
 use reading::Reading;
@@ -106,7 +109,33 @@ fn with_one_more(vars: &[u8], sort: u8) -> [u8; Limits::VARIABLES]
     more
 }
 
+// The body of a shared part of sort t, behind its first, with one variable more: the allowance left behind it, or the first's refusal.
+fn read_body(
+    book: &[u8],
+    at: &[u16],
+    s: &[u8],
+    who: Asker,
+    vars: &[u8],
+    t: u8,
+    sort: u8,
+    first: Reading,
+) -> Reading
+    requires { ⌜ length (now vars) < mostVariables ⌝ }
+    ensures { λ r. ⌜ ((f : ℕ) → ((v n : ℕ) → readingOf first ≡ got v n → length (now (s .entry)) ≤ n + f) → readingOf r ≡ bodyWith (exprAt (now (s .entry)) (baseOf who) (symbolsIn (now (book .entry)) (now (at .entry))) (length (now (s .entry))) f (now (vars .entry) ++ (t ∷ []))) sort (readingOf first)) ⌝ }
+{
+    match first {
+        Reading::Refusal { number, place } => Reading::Refusal { number, place },
+        Reading::Got { value, next } => {
+            let more = with_one_more(vars, t);
+            let bound = vars.len() + 1;
+            read_expr(book, at, s, who, &more[0..bound], sort, value, next)
+        }
+    }
+}
+
 // A shared part, whose code stands at p, and the body behind it, in which it is one variable more: the allowance left behind them.
+// Shared parts may stand directly in each other as deep as there are bytes, so no call is made for each: their codes and sort bytes are
+// read inward, then what stands in the innermost, then the bodies outward.
 fn read_shared(
     book: &[u8],
     at: &[u16],
@@ -133,27 +162,31 @@ fn read_shared(
             place: p,
         };
     }
-    if between(p, e) < 2 {
-        return Reading::Refusal {
-            number: base_of(who) + 1,
-            place: e,
-        };
-    }
-    let t = byte(s, p + 1);
-    if Limits::LAST_SORT < t {
-        return Reading::Refusal {
-            number: base_of(who) + 3,
-            place: p + 1,
-        };
-    }
-    match read_expr(book, at, s, who, vars, t, left, p + 2) {
-        Reading::Refusal { number, place } => Reading::Refusal { number, place },
-        Reading::Got { value, next } => {
-            let more = with_one_more(vars, t);
-            let bound = vars.len() + 1;
-            read_expr(book, at, s, who, &more[0..bound], sort, value, next)
+    let mut q = p;
+    loop {
+        if between(q, e) < 2 {
+            return Reading::Refusal {
+                number: base_of(who) + 1,
+                place: e,
+            };
+        }
+        if Limits::LAST_SORT < byte(s, q + 1) {
+            return Reading::Refusal {
+                number: base_of(who) + 3,
+                place: q + 1,
+            };
+        }
+        q += 2;
+        if byte(s, q) != 4 {
+            break;
         }
     }
+    let mut r = read_expr(book, at, s, who, vars, byte(s, q - 1), left, q);
+    while p + 2 < q {
+        q -= 2;
+        r = read_body(book, at, s, who, vars, byte(s, q + 1), byte(s, q - 1), r);
+    }
+    read_body(book, at, s, who, vars, byte(s, p + 1), sort, r)
 }
 
 // An expression of the sort asked for, at p of an item that is all of s: the allowance left behind it.
