@@ -10,4 +10,5 @@ pub mod Levels
 pub mod Circle
 pub mod Told
 pub mod Saved
+pub mod TermRows
 pub mod Cases
