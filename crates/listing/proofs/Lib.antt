@@ -11,3 +11,4 @@ pub mod LineWays
 pub mod NameWays
 pub mod TagWays
 pub mod NumberWays
+pub mod Sizes
