@@ -12,3 +12,5 @@ pub mod NameWays
 pub mod TagWays
 pub mod NumberWays
 pub mod Sizes
+pub mod TermWays
+pub mod TermsRead

@@ -1,7 +1,17 @@
 // What a listing says of broader terms, in two rows of numbers: those of heading x are `to[from[x] .. from[x + 1]]`, in listing order.
-ghost use Rattle.listing.specs.Listing.{broaderIn};
-ghost use Rattle.listing.specs.TermRows.{TermsAs};
+ghost use mathlib.Core.Path.{_≡_};
+ghost use Prim.Native.Nat.{_+_, _≤_, _<_};
+ghost use lib.ListN.{length, set};
+ghost use Rattle.listing.specs.Lines.{lineOf, linesOf};
+ghost use Rattle.listing.specs.Places.{bytesOf};
+ghost use Rattle.listing.specs.Listing.{headingsOf, broaderIn};
+ghost use Rattle.listing.specs.TermRows.{TermsAs, mostHeadings};
+ghost use Rattle.listing.specs.Gathering.{FewHeadings, Within, RoomFor, LineTaken, grownBy, sumOpened, sumAdded, withinBy};
 use super::judge::judged;
+use super::lines::Form;
+use super::lines::form_of;
+use super::lines::line_end;
+use super::lines::number_of;
 
 pub const HEADINGS: usize = 341;
 
@@ -30,10 +40,130 @@ fn refused(number: u8, line: usize) -> Terms {
     }
 }
 
+// What the lines so far give: how many headings, how many broader terms the last of them has, how many there are in all, and how many bytes
+// the book of these has.
+pub struct Sum {
+    pub headings: usize,
+    pub own: usize,
+    pub terms: usize,
+    pub size: usize,
+}
+
+// A first broader term takes the place of two rules to fail.
+fn grown(own: usize) -> usize
+    ensures { λ r. ⌜ r ≡ grownBy own ⌝ }
+{
+    if own == 0 {
+        return 8;
+    }
+    12
+}
+
+// A heading's own line: its row opens where the last one ends.
+fn open_row(sum: Sum, from: &mut [u16; ROWS]) -> Sum
+    requires { ⌜ Within sum × (sum .headings < mostHeadings) ⌝ }
+    ensures { λ r. ⌜ (r ≡ sumOpened sum) × (now (from .exit) ≡ set (now (from .entry)) (sum .headings + 1) (sum .terms)) ⌝ }
+{
+    let x = sum.headings + 1;
+    let terms = sum.terms;
+    from[x] = terms as u16;
+    Sum {
+        headings: x,
+        own: 0,
+        terms,
+        size: sum.size + 17,
+    }
+}
+
+// A BT line: one more term in the last heading's row.
+fn add_term(sum: Sum, term: usize, from: &mut [u16; ROWS], to: &mut [u16; TERMS]) -> Sum
+    requires { ⌜ Within sum × (term < mostHeadings) ⌝ }
+    ensures { λ r. ⌜ r ≡ sumAdded sum ⌝ }
+    ensures { λ r. ⌜ now (from .exit) ≡ set (now (from .entry)) (sum .headings) (sum .terms + 1) ⌝ }
+    ensures { λ r. ⌜ now (to .exit) ≡ set (now (to .entry)) (sum .terms) term ⌝ }
+{
+    let x = sum.headings;
+    let own = sum.own;
+    let terms = sum.terms;
+    to[terms] = term as u16;
+    from[x] = (terms + 1) as u16;
+    Sum {
+        headings: x,
+        own: own + 1,
+        terms: terms + 1,
+        size: sum.size + grown(own),
+    }
+}
+
+// What the line from `at` to its newline at `end` adds.
+fn take_line(s: &[u8], at: usize, end: usize, sum: Sum, from: &mut [u16; ROWS], to: &mut [u16; TERMS]) -> Sum
+    requires { ⌜ (at ≤ end) × (end ≤ length (now s)) × Within sum × RoomFor (headingsOf (linesOf (now s))) (lineOf (bytesOf (now s) at end)) sum ⌝ }
+    ensures {
+        λ r. ⌜ LineTaken (headingsOf (linesOf (now (s .entry)))) (lineOf (bytesOf (now (s .entry)) at end)) sum r
+            (now (from .entry)) (now (from .exit)) (now (to .entry)) (now (to .exit)) ⌝
+    }
+{
+    let f = form_of(s, at, end);
+    match f {
+        Form::Heading => open_row(sum, from),
+        Form::Broader => add_term(sum, number_of(s, at + 5, end), from, to),
+        Form::Narrower => sum,
+        Form::Other => sum,
+    }
+}
+
+// "64 nodes in one expression", so 16 broader terms; "Book 32,768 bytes"
+fn is_within(sum: Sum) -> bool
+    ensures { λ r. ⌜ r ≡ withinBy sum ⌝ }
+{
+    if 16 < sum.own {
+        return false;
+    }
+    sum.size <= 32768
+}
+
+// The terms of a good listing, in one pass over its lines; 43 as soon as a size is passed.
+fn gathered(s: &[u8]) -> Terms
+    requires { ⌜ FewHeadings (broaderIn (now s)) ⌝ }
+    ensures { λ r. ⌜ TermsAs r (broaderIn (now (s .entry))) ⌝ }
+{
+    let mut from = [0u16; ROWS];
+    let mut to = [0u16; TERMS];
+    let mut sum = Sum {
+        headings: 0,
+        own: 0,
+        terms: 0,
+        size: 5,
+    };
+    let mut at: usize = 0;
+    while at < s.len() {
+        let end = line_end(s, at);
+        sum = take_line(s, at, end, sum, &mut from, &mut to);
+        if !is_within(sum) {
+            return refused(43, 0);
+        }
+        at = end + 1;
+    }
+    Terms {
+        number: 0,
+        line: 0,
+        headings: sum.headings,
+        size: sum.size,
+        from,
+        to,
+    }
+}
+
 // 40 to 42 and, for the sizes of document 01, 43; else the terms.
 pub(crate) fn terms_of(s: &[u8]) -> Terms
     ensures { λ r. ⌜ TermsAs r (broaderIn (now (s .entry))) ⌝ }
 {
     let j = judged(s);
-    refused(j.number, j.line)
+    if j.number != 0 {
+        return refused(j.number, j.line);
+    }
+    if HEADINGS < j.headings {
+        return refused(43, 0);
+    }
+    gathered(s)
 }
