@@ -14,3 +14,4 @@ pub mod NumberWays
 pub mod Sizes
 pub mod TermWays
 pub mod TermsRead
+pub mod TermsHeld
