@@ -15,3 +15,4 @@ pub mod Sizes
 pub mod TermWays
 pub mod TermsRead
 pub mod TermsHeld
+pub mod TermsGoing

@@ -45,7 +45,7 @@ abbrev lists : List Name → List Relation → Lists
 lists headings relations = record { headings = headings; relations = relations }
 
 -- so many rows, by their headings
-abbrev rowsOf : List Name → List Relation → ℕ → ℕ → Broader
+abbrev pub rowsOf : List Name → List Relation → ℕ → ℕ → Broader
 rowsOf headings relations n x = broaderFrom (lists headings relations) n x
 
 -- one heading more
@@ -98,6 +98,7 @@ pub record Held (headings : List Name) (relations : List Relation) (x : ℕ) (su
   pub inside : (i : ℕ) → i < sum .terms → getD to i 0 < length headings
   pub rows : (y : ℕ) → y < x → bytesOf to (getD from y 0) (getD from (suc y) 0) ≡ broaderOf headings relations y
   pub none : (y : ℕ) → x ≤ y → broaderOf headings relations y ≡ []
+  pub fresh : x ≡ 0 → sum .own ≡ 0
   pub own : (y : ℕ) → x ≡ suc y → sum .own ≡ length (broaderOf headings relations y)
   pub size : sum .size ≡ 5 + allBytes (rowsOf headings relations x 0)
   pub terms : 12 * sum .terms + 12 ≤ sum .size + grownBy (sum .own)
@@ -118,6 +119,7 @@ held-none headings from to from-long to-long opens =
       inside = λ i low. absurd (omega arith);
       rows = λ y low. absurd (omega arith);
       none = λ y high. refl;
+      fresh = λ is. refl;
       own = λ y is. absurd (omega arith);
       size = refl;
       terms = omega arith;
@@ -151,6 +153,7 @@ module _ (headings : List Name) (relations : List Relation) (x : ℕ) (sum : Sum
           inside = h .inside;
           rows = λ y low. by-rows y low (ℕ-discrete y x);
           none = λ y high. h .none y (omega arith);
+          fresh = λ is. absurd (omega arith);
           own = λ y is. let same : y ≡ x = omega arith in rw (same, h .none x (omega arith)) refl;
           size =
             let empty = ap (λ l. headingBytes (length l)) (h .none x (omega arith)) in
@@ -193,6 +196,7 @@ module _ (headings : List Name) (relations : List Relation) (x : ℕ) (sum : Sum
           inside = h .inside;
           rows = λ y low. h .rows y low ∙ sym (as-before y);
           none = λ y high. as-before y ∙ h .none y high;
+          fresh = h .fresh;
           own = λ y is. h .own y is ∙ ap length (sym (as-before y));
           size = h .size ∙ ap (λ l. 5 + allBytes l) (sym (rows-alike headings narrowed relations x 0 (λ y low high. as-before y)));
           terms = h .terms;
@@ -255,6 +259,7 @@ module _ (headings : List Name) (relations : List Relation) (x : ℕ) (sum : Sum
           inside = λ i low. by-inside i low (ℕ-discrete i (sum .terms));
           rows = λ y low. by-rows y low (ℕ-discrete y z);
           none = λ y high. row-other y (λ is. omega arith) ∙ h .none y high;
+          fresh = λ is. absurd (omega arith);
           own = λ y is. let same : y ≡ z = omega arith in rw same own-grown;
           size = size-grown;
           terms = let next : grownBy (sum .own + 1) ≡ 12 = rw (add-one (sum .own)) refl in omega (arith, h .terms, next);
