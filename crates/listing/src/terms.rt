@@ -29,7 +29,9 @@ pub struct Terms {
     pub to: [u16; TERMS],
 }
 
-fn refused(number: u8, line: usize) -> Terms {
+fn refused(number: u8, line: usize) -> Terms
+    ensures { λ r. ⌜ (r .number ≡ number) × (r .line ≡ line) ⌝ }
+{
     Terms {
         number,
         line,
