@@ -16,3 +16,4 @@ pub mod TermWays
 pub mod TermsRead
 pub mod TermsHeld
 pub mod TermsGoing
+pub mod TermsTold

@@ -72,7 +72,7 @@ rows-rise headings front later (suc n) more x =
 
 -- ---- what is told
 
-as-over : (t : Terms) (terms : Broader) (line : ℕ) → passes terms ≡ true → t .number ≡ 43 → t .line ≡ 0 → TermsAs t (got terms line)
+pub as-over : (t : Terms) (terms : Broader) (line : ℕ) → passes terms ≡ true → t .number ≡ 43 → t .line ≡ 0 → TermsAs t (got terms line)
 as-over t terms line is number zero-line = rw (is, TermsAs) (number, zero-line)
 
 as-fitting : (t : Terms) (terms : Broader) (line : ℕ) → passes terms ≡ false → Fitting t terms → TermsAs t (got terms line)
@@ -168,7 +168,7 @@ module _ (s : List ℕ) (at : ℕ) (sum : Sum) (from to : List ℕ) (g : Going s
           let rest = broaderOf names (later .0) y in
           let same : 0 + y ≡ y = omega arith in
           let here : getD (g .terms) y [] ≡ row ++ rest =
-              ap (λ l. getD l y []) told ∙ row-at names (g .relations ++ later .0) (length names) 0 y (omega (arith, so-far)) ∙ rw same (broader-append names (g .relations) (later .0) y) in
+          ap (λ l. getD l y []) told ∙ row-at names (g .relations ++ later .0) (length names) 0 y (omega (arith, so-far)) ∙ rw same (broader-append names (g .relations) (later .0) y) in
           passes-row (g .terms) y (omega (arith, ap length here, length-append row rest, g .held .own y is))
 
   over-size : 32768 < sum .size → passes (g .terms) ≡ true
@@ -177,7 +177,7 @@ module _ (s : List ℕ) (at : ℕ) (sum : Sum) (from to : List ℕ) (g : Going s
       let all : count + more ≡ length names = omega (arith, so-far) in
       let rise = rows-rise names (g .relations) (later .0) count more 0 in
       let same : allBytes (rowsOf names (g .relations ++ later .0) (count + more) 0) ≡ allBytes (g .terms) =
-          ap (λ k. allBytes (rowsOf names (g .relations ++ later .0) k 0)) all ∙ ap allBytes (sym told) in
+      ap (λ k. allBytes (rowsOf names (g .relations ++ later .0) k 0)) all ∙ ap allBytes (sym told) in
       passes-bytes (g .terms) (omega (arith, g .held .size))
 
   pub going-over : withinBy sum ≡ false → passes (g .terms) ≡ true
@@ -202,7 +202,7 @@ module _ (s : List ℕ) (at : ℕ) (sum : Sum) (from to : List ℕ) (g : Going s
         by (yes low) = low
         by (no high) =
             let cut : listsFrom (g .headings) (g .relations) (g .n) (other ∷ []) ≡ got (g .read .lists) (g .read .last) =
-                rw (line-cut-at s at inside (omega (arith, high))) at (g .goes) in
+            rw (line-cut-at s at inside (omega (arith, high))) at (g .goes) in
             absurd (past-other (g .headings) (g .relations) (g .n) [] cut)
 
     abbrev here : Line
@@ -261,9 +261,14 @@ module _ (s : List ℕ) (at : ℕ) (sum : Sum) (from to : List ℕ) (g : Going s
             let small : sum .terms < 2736 = omega (arith, within .terms, within .size) in
             let held = held-broader names (g .relations) count sum from to (g .held) (g .n) z name last few small low in
             let grown = own-grown names (g .relations) count sum from to (g .held) (g .n) z name last few small low in
-            let own-after : after .own ≡ sum .own + 1 = ap (λ (k : Sum). k .own) (taken .sums) in
-            (g .headings, g .relations ++ (r ∷ []), suc (g .n), on, rw (taken .sums, taken .opened, taken .filled) held,
-              λ own y. by-short z (g .n) name y (omega (arith, grown)) (ℕ-discrete z y))
+            let own-after : after .own ≡ sum .own + 1 = ap (λ (k : Sum). k .own) (taken .sums) in (
+              g .headings,
+              g .relations ++ (r ∷ []),
+              suc (g .n),
+              on,
+              rw (taken .sums, taken .opened, taken .filled) held,
+              λ own y. by-short z (g .n) name y (omega (arith, grown)) (ℕ-discrete z y),
+            )
           where
             by-short : (z n : ℕ) (name : Name) (y : ℕ) → length (broaderOf names (g .relations ++ (record { line = n; under = z; isBroader = true; name = name } ∷ [])) z) ≤ 16 → Dec (z ≡ y)
                 → length (broaderOf names (g .relations ++ (record { line = n; under = z; isBroader = true; name = name } ∷ [])) y) ≤ 16
@@ -274,9 +279,14 @@ module _ (s : List ℕ) (at : ℕ) (sum : Sum) (from to : List ℕ) (g : Going s
             let on = past-narrower (g .headings) (g .relations) (g .n) name rest is in
             let r = relation (g .n) (g .headings) false name in
             let z = count - 1 in
-            let held = held-narrower names (g .relations) count sum from to (g .held) (g .n) z name in
-            (g .headings, g .relations ++ (r ∷ []), suc (g .n), on, rw (taken .sums, taken .opened, taken .filled) held,
-              λ own y. rw (narrower-none names (g .relations) (g .n) z name y) (short-now y))
+            let held = held-narrower names (g .relations) count sum from to (g .held) (g .n) z name in (
+              g .headings,
+              g .relations ++ (r ∷ []),
+              suc (g .n),
+              on,
+              rw (taken .sums, taken .opened, taken .filled) held,
+              λ own y. rw (narrower-none names (g .relations) (g .n) z name y) (short-now y),
+            )
         step other is taken = absurd (past-other (g .headings) (g .relations) (g .n) rest is)
 
         -- THE LINE IS TAKEN, and the pass goes on behind it.

@@ -156,8 +156,8 @@ module _ (headings : List Name) (relations : List Relation) (x : ℕ) (sum : Sum
           fresh = λ is. absurd (omega arith);
           own = λ y is. let same : y ≡ x = omega arith in rw (same, h .none x (omega arith)) refl;
           size =
-            let empty = ap (λ l. headingBytes (length l)) (h .none x (omega arith)) in
-            omega (arith, h .size, bytes-more headings relations x, empty);
+              let empty = ap (λ l. headingBytes (length l)) (h .none x (omega arith)) in
+              omega (arith, h .size, bytes-more headings relations x, empty);
           terms = omega (arith, h .terms, grown-small (sum .own));
           fromLong = length-set from (sum .headings + 1) (sum .terms) ∙ h .fromLong;
           toLong = h .toLong;

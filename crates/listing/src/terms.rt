@@ -98,12 +98,17 @@ fn add_term(sum: Sum, term: usize, from: &mut [u16; ROWS], to: &mut [u16; TERMS]
 }
 
 // What the line from `at` to its newline at `end` adds.
-fn take_line(s: &[u8], at: usize, end: usize, sum: Sum, from: &mut [u16; ROWS], to: &mut [u16; TERMS]) -> Sum
+fn take_line(
+    s: &[u8],
+    at: usize,
+    end: usize,
+    sum: Sum,
+    from: &mut [u16; ROWS],
+    to: &mut [u16; TERMS],
+) -> Sum
     requires { ⌜ (at ≤ end) × (end ≤ length (now s)) × Within sum × RoomFor (headingsOf (linesOf (now s))) (lineOf (bytesOf (now s) at end)) sum ⌝ }
-    ensures {
-        λ r. ⌜ LineTaken (headingsOf (linesOf (now (s .entry)))) (lineOf (bytesOf (now (s .entry)) at end)) sum r
-            (now (from .entry)) (now (from .exit)) (now (to .entry)) (now (to .exit)) ⌝
-    }
+    ensures { λ r. ⌜ LineTaken (headingsOf (linesOf (now (s .entry)))) (lineOf (bytesOf (now (s .entry)) at end)) sum r
+        (now (from .entry)) (now (from .exit)) (now (to .entry)) (now (to .exit)) ⌝ }
 {
     let f = form_of(s, at, end);
     match f {

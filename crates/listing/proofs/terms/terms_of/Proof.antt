@@ -1,37 +1,43 @@
+-- `terms_of` meets its contract.
+use mathlib.Core.Path.{_≡_}
+use Prim.Native.Nat.{_≤_}
+use native.Mathlib.Omega.{arith}
+use native.Mathlib.Decide.{ℕ-discrete}
 use borrow.Author.Needs.{needs}
+use Rattle.listing.specs.Listing.{broaderIn}
+use Rattle.listing.proofs.Refused.{numbered}
+use Rattle.listing.proofs.TermsTold.{told-refused, told-many, few-told}
 use Rattle.listing.proofs.terms.terms_of.Statement.{statement}
 use Rattle.listing.proofs.terms.terms_of.Tie as tie
-use Rattle.listing.proofs.terms.terms_of.Reads as reads
-use Rattle.listing.proofs.terms.terms_of.Lts as lts
-use Rattle.listing.proofs.judge.judged.Reads as judged-reads
-use Rattle.listing.proofs.terms.gathered.Reads as gathered-reads
-use Rattle.listing.proofs.terms.refused.Reads as refused-reads
 
--- src/terms.rt:163:9
 judged-requires : tie.Need-judged-requires
 judged-requires c κs = search needs
 
--- src/terms.rt:165:9
 refused-requires : tie.Need-refused-requires
 refused-requires c κs = search needs
 
--- src/terms.rt:165:9
 returns : tie.Need-returns
-returns c = search needs
+returns c =
+    let s = c .before .before .before .before .before .args .s .now in
+    let j = c .before .before .before .judged in
+    told-refused (broaderIn s) (j .result) (j .ensures) (c .before .if1 .taken) (c .refused .result) (c .refused .ensures .0) (c .refused .ensures .1)
 
--- src/terms.rt:168:9
 refused-requires-2 : tie.Need-refused-requires-2
 refused-requires-2 c κs = search needs
 
--- src/terms.rt:168:9
 returns-2 : tie.Need-returns-2
-returns-2 c = search needs
+returns-2 c =
+    let s = c .before .before .before .before .before .before .before .args .s .now in
+    let j = c .before .before .before .before .before .judged in
+    told-many (broaderIn s) (j .result) (numbered s) (c .before .before .before .if1 .left) (j .ensures) (c .before .if2 .taken) (c .refused2 .result)
+    (c .refused2 .ensures .0) (c .refused2 .ensures .1)
 
--- src/terms.rt:170:5
 gathered-requires : tie.Need-gathered-requires
-gathered-requires c κs = search needs
+gathered-requires c κs =
+    let s = c .before .before .before .before .before .before .args .s .now in
+    let j = c .before .before .before .before .judged in
+    few-told (broaderIn s) (j .result) (numbered s) (c .before .before .if1 .left) (j .ensures) (c .if2 .left)
 
--- src/terms.rt:160:1
 returns-3 : tie.Need-returns-3
 returns-3 c = search needs
 
