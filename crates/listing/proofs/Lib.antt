@@ -17,3 +17,4 @@ pub mod TermsRead
 pub mod TermsHeld
 pub mod TermsGoing
 pub mod TermsTold
+pub mod TermsNoted

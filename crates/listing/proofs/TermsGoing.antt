@@ -119,6 +119,16 @@ going-first s from to few from-long to-long opens = by (broaderIn s) refl few
           short = λ own y. omega arith;
         }
 
+-- its headings are few
+pub few-names : (s : List ℕ) → FewHeadings (broaderIn s) → length (headingsOf (linesOf s)) ≤ 341
+few-names s few = by (broaderIn s) refl few
+  where
+    by : (r : Reading Broader) → broaderIn s ≡ r → FewHeadings r → length (headingsOf (linesOf s)) ≤ 341
+    by (refusal c l) is few = elim few [ ]
+    by (got terms line) is few =
+        let read = read-of s is in
+        omega (arith, ap length (read .told), row-count (read .lists) (length (read .lists .headings)) 0, ap length (read .names))
+
 module _ (s : List ℕ) (at : ℕ) (sum : Sum) (from to : List ℕ) (g : Going s at sum from to) where
   abbrev names : List Name
   names = g .read .lists .headings

@@ -1,14 +1,15 @@
 -- How the code gathers broader terms, line by line: in sums and in the two rows of TermRows. For contracts of inner functions.
 use mathlib.Core.Bool.{Bool, true, false, _&&_}
 use mathlib.Core.Path.{_≡_}
-use mathlib.Core.List.{List}
+use mathlib.Core.List.{List, []}
 use Prim.Native.Nat.{ℕ, zero, suc, _+_, _*_, _≤_, _<_}
 use lib.Dec.{leb}
-use lib.ListN.{length, set}
+use lib.ListN.{length, getD, set}
 use Rattle.limits.specs.Sizes.{mostBookBytes}
 use Rattle.reading.specs.Reading.{Reading, got, refusal}
-use Rattle.listing.specs.Lines.{Name, Line, heading, broader, narrower, other}
-use Rattle.listing.specs.Listing.{Broader, numberOf}
+use Rattle.listing.specs.Lines.{Name, Line, heading, broader, narrower, other, linesOf}
+use Rattle.listing.specs.Listing.{Broader, numberOf, headingsOf}
+use Rattle.listing.specs.Places.{bytesOf}
 use Rattle.listing.specs.TermRows.{mostHeadings}
 use Rattle.listing.specs.declared.terms.Sum.{Sum}
 
@@ -20,6 +21,42 @@ mostOwn = 16
 abbrev pub FewHeadings : Reading Broader → Type 0
 FewHeadings (refusal c line) = ⊥
 FewHeadings (got terms n) = length terms ≤ mostHeadings
+
+-- so many headings are noted by the places where their names open and end, in the order of their numbers
+pub record Noted (s opens ends : List ℕ) (names : List Name) (count : ℕ) : Type 0 where
+  pub inside : (x : ℕ) → x < count → getD ends x 0 ≤ length s
+  pub stand : (x : ℕ) → x < count → bytesOf s (getD opens x 0) (getD ends x 0) ≡ getD names x []
+
+-- all headings of a listing are
+pub record AllNoted (s opens ends : List ℕ) (count : ℕ) : Type 0 where
+  pub all : count ≡ length (headingsOf (linesOf s))
+  pub few : count ≤ mostHeadings
+  pub noted : Noted s opens ends (headingsOf (linesOf s)) count
+
+-- what a line adds to them
+abbrev pub countAfter : Line → ℕ → ℕ
+countAfter (heading name) count = count + 1
+countAfter (broader name) count = count
+countAfter (narrower name) count = count
+countAfter other count = count
+
+abbrev pub placesAfter : Line → ℕ → ℕ → List ℕ → List ℕ
+placesAfter (heading name) count place places = set places count place
+placesAfter (broader name) count place places = places
+placesAfter (narrower name) count place places = places
+placesAfter other count place places = places
+
+abbrev pub RoomToNote : Line → ℕ → Type 0
+RoomToNote (heading name) count = count < mostHeadings
+RoomToNote (broader name) count = Unit
+RoomToNote (narrower name) count = Unit
+RoomToNote other count = Unit
+
+-- one line was noted, from place `at` to its newline at `end`
+pub record LineNoted (line : Line) (at end count after : ℕ) (opens opensNow ends endsNow : List ℕ) : Type 0 where
+  pub counted : after ≡ countAfter line count
+  pub opened : opensNow ≡ placesAfter line count at opens
+  pub ended : endsNow ≡ placesAfter line count end ends
 
 -- the sums are those of a book within its sizes
 pub record Within (sum : Sum) : Type 0 where

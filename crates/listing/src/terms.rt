@@ -4,14 +4,15 @@ ghost use Prim.Native.Nat.{_+_, _≤_, _<_};
 ghost use lib.ListN.{length, set};
 ghost use Rattle.listing.specs.Lines.{lineOf, linesOf};
 ghost use Rattle.listing.specs.Places.{bytesOf};
-ghost use Rattle.listing.specs.Listing.{headingsOf, broaderIn};
+ghost use Rattle.listing.specs.Listing.{numberOf, headingsOf, broaderIn};
 ghost use Rattle.listing.specs.TermRows.{TermsAs, mostHeadings};
+ghost use Rattle.listing.specs.Gathering.{AllNoted, RoomToNote, LineNoted};
 ghost use Rattle.listing.specs.Gathering.{FewHeadings, Within, RoomFor, LineTaken, grownBy, sumOpened, sumAdded, withinBy};
 use super::judge::judged;
 use super::lines::Form;
 use super::lines::form_of;
 use super::lines::line_end;
-use super::lines::number_of;
+use super::lines::same;
 
 pub const HEADINGS: usize = 341;
 
@@ -40,6 +41,75 @@ fn refused(number: u8, line: usize) -> Terms
         from: [0u16; ROWS],
         to: [0u16; TERMS],
     }
+}
+
+// One heading more is noted, if the line from `at` to its newline at `end` is a heading's own.
+fn note_line(
+    s: &[u8],
+    at: usize,
+    end: usize,
+    count: usize,
+    opens: &mut [usize; HEADINGS],
+    ends: &mut [usize; HEADINGS],
+) -> usize
+    requires { ⌜ (at ≤ end) × (end ≤ length (now s)) × RoomToNote (lineOf (bytesOf (now s) at end)) count ⌝ }
+    ensures { λ r. ⌜ LineNoted (lineOf (bytesOf (now (s .entry)) at end)) at end count r
+        (now (opens .entry)) (now (opens .exit)) (now (ends .entry)) (now (ends .exit)) ⌝ }
+{
+    let f = form_of(s, at, end);
+    match f {
+        Form::Heading => {
+            opens[count] = at;
+            ends[count] = end;
+            count + 1
+        }
+        Form::Broader => count,
+        Form::Narrower => count,
+        Form::Other => count,
+    }
+}
+
+// All headings are noted by the places where their names open and end, so that a name is looked up without going over the lines again.
+fn note_headings(s: &[u8], opens: &mut [usize; HEADINGS], ends: &mut [usize; HEADINGS]) -> usize
+    requires { ⌜ length (headingsOf (linesOf (now s))) ≤ mostHeadings ⌝ }
+    requires { ⌜ (length (now opens) ≡ mostHeadings) × (length (now ends) ≡ mostHeadings) ⌝ }
+    ensures { λ r. ⌜ AllNoted (now (s .entry)) (now (opens .exit)) (now (ends .exit)) r ⌝ }
+{
+    let mut count: usize = 0;
+    let mut at: usize = 0;
+    while at < s.len() {
+        let end = line_end(s, at);
+        if s.len() <= end {
+            return count;
+        }
+        count = note_line(s, at, end, count, opens, ends);
+        at = end + 1;
+    }
+    count
+}
+
+// "Headings are numbered by their own lines": the number of the heading with the name from `from` to `until`, among those noted.
+fn number_among(
+    s: &[u8],
+    opens: &[usize; HEADINGS],
+    ends: &[usize; HEADINGS],
+    count: usize,
+    from: usize,
+    until: usize,
+) -> usize
+    requires { ⌜ (until ≤ length (now s)) × AllNoted (now s) (now opens) (now ends) count ⌝ }
+    ensures { λ r. ⌜ r ≡ numberOf (bytesOf (now (s .entry)) from until) (headingsOf (linesOf (now (s .entry)))) ⌝ }
+{
+    let mut x: usize = 0;
+    while x < count {
+        let at = opens[x];
+        let end = ends[x];
+        if same(s, from, until, at, end) {
+            return x;
+        }
+        x += 1;
+    }
+    x
 }
 
 // What the lines so far give: how many headings, how many broader terms the last of them has, how many there are in all, and how many bytes
@@ -100,6 +170,9 @@ fn add_term(sum: Sum, term: usize, from: &mut [u16; ROWS], to: &mut [u16; TERMS]
 // What the line from `at` to its newline at `end` adds.
 fn take_line(
     s: &[u8],
+    opens: &[usize; HEADINGS],
+    ends: &[usize; HEADINGS],
+    count: usize,
     at: usize,
     end: usize,
     sum: Sum,
@@ -107,13 +180,19 @@ fn take_line(
     to: &mut [u16; TERMS],
 ) -> Sum
     requires { ⌜ (at ≤ end) × (end ≤ length (now s)) × Within sum × RoomFor (headingsOf (linesOf (now s))) (lineOf (bytesOf (now s) at end)) sum ⌝ }
+    requires { ⌜ AllNoted (now s) (now opens) (now ends) count ⌝ }
     ensures { λ r. ⌜ LineTaken (headingsOf (linesOf (now (s .entry)))) (lineOf (bytesOf (now (s .entry)) at end)) sum r
         (now (from .entry)) (now (from .exit)) (now (to .entry)) (now (to .exit)) ⌝ }
 {
     let f = form_of(s, at, end);
     match f {
         Form::Heading => open_row(sum, from),
-        Form::Broader => add_term(sum, number_of(s, at + 5, end), from, to),
+        Form::Broader => add_term(
+            sum,
+            number_among(s, opens, ends, count, at + 5, end),
+            from,
+            to,
+        ),
         Form::Narrower => sum,
         Form::Other => sum,
     }
@@ -134,6 +213,9 @@ fn gathered(s: &[u8]) -> Terms
     requires { ⌜ FewHeadings (broaderIn (now s)) ⌝ }
     ensures { λ r. ⌜ TermsAs r (broaderIn (now (s .entry))) ⌝ }
 {
+    let mut opens = [0usize; HEADINGS];
+    let mut ends = [0usize; HEADINGS];
+    let count = note_headings(s, &mut opens, &mut ends);
     let mut from = [0u16; ROWS];
     let mut to = [0u16; TERMS];
     let mut sum = Sum {
@@ -145,7 +227,7 @@ fn gathered(s: &[u8]) -> Terms
     let mut at: usize = 0;
     while at < s.len() {
         let end = line_end(s, at);
-        sum = take_line(s, at, end, sum, &mut from, &mut to);
+        sum = take_line(s, &opens, &ends, count, at, end, sum, &mut from, &mut to);
         if !is_within(sum) {
             return refused(43, 0);
         }

@@ -22,17 +22,17 @@ open-row-requires c κs =
     let a = start .args in
     let found = c .before .before .before .form-of in
     let bs = bytesOf (a .s .now) (a .at) (a .end) in
-    let room = room-heading (found .result) bs (found .ensures) (headingsOf (linesOf (a .s .now))) (a .sum) (c .before .enum-told .given .1) (start .pre .3) in
-    (start .pre .2, room)
+    let room = room-heading (found .result) bs (found .ensures) (headingsOf (linesOf (a .s .now))) (a .sum) (c .before .enum-told .given .1) (start .pre .0 .3) in
+    (start .pre .0 .2, room)
 
 enum-told-2 : tie.Need-enum-told-2
 enum-told-2 c = search needs
 
-add-number-of : tie.Need-add-number-of
-add-number-of c = search needs
+add-number-among : tie.Need-add-number-among
+add-number-among c = search needs
 
-number-of-requires : tie.Need-number-of-requires
-number-of-requires c κs = search needs
+number-among-requires : tie.Need-number-among-requires
+number-among-requires c κs = search needs
 
 add-term-requires : tie.Need-add-term-requires
 add-term-requires c κs =
@@ -42,9 +42,9 @@ add-term-requires c κs =
     let found = c .before .before .before .before .before .form-of in
     let bs = bytesOf s (a .at) (a .end) in
     let names = headingsOf (linesOf s) in
-    let room = room-broader (found .result) bs (found .ensures) names (a .sum) (c .before .before .before .enum-told2 .given .1) (start .pre .3) in
+    let room = room-broader (found .result) bs (found .ensures) names (a .sum) (c .before .before .before .enum-told2 .given .1) (start .pre .0 .3) in
     let name = ap (λ l. numberOf l names) (behind-tag s (a .at) (a .end)) in
-    (start .pre .2, omega (arith, room, name, c .before .before .number-of .ensures))
+    (start .pre .0 .2, omega (arith, room, name, c .before .before .number-among .ensures))
 
 enum-told-3 : tie.Need-enum-told-3
 enum-told-3 c = search needs
@@ -71,7 +71,7 @@ returns-2 c =
     let names = headingsOf (linesOf s) in
     let (sums, (opened, filled)) = c .add-term .ensures in
     let name = ap (λ l. numberOf l names) (behind-tag s (a .at) (a .end)) in
-    let term = ap (set (a .to .now) (a .sum .terms)) (c .before .before .before .number-of .ensures ∙ sym name) in
+    let term = ap (set (a .to .now) (a .sum .terms)) (c .before .before .before .number-among .ensures ∙ sym name) in
     taken-broader (found .result) bs (found .ensures) names (a .sum) (c .before .before .before .before .enum-told2 .given .1) sums opened (filled ∙ term)
 
 returns-3 : tie.Need-returns-3
@@ -96,8 +96,8 @@ take-line-spec =
     enum-told
     open-row-requires
     enum-told-2
-    add-number-of
-    number-of-requires
+    add-number-among
+    number-among-requires
     add-term-requires
     enum-told-3
     enum-told-4
