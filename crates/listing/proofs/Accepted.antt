@@ -70,11 +70,11 @@ lists-some (b ∷ bs) =
 -- ---- each broader term is a heading
 
 -- each of these lines names a heading
-data Known (headings : List Name) : List Relation → Type 0 where
+pub data Known (headings : List Name) : List Relation → Type 0 where
   none : Known headings []
   more : {r : Relation} {rs : List Relation} → numberOf (r .name) headings < length headings → Known headings rs → Known headings (r ∷ rs)
 
-mirrors-known : (l : Lists) (rest : List Relation) (n : ℕ) → Good (λ l′ q. (l′ ≡ l) × Known (l .headings) rest) (mirroredFrom l rest n)
+pub mirrors-known : (l : Lists) (rest : List Relation) (n : ℕ) → Good (λ l′ q. (l′ ≡ l) × Known (l .headings) rest) (mirroredFrom l rest n)
 unfolding mirroredFrom
 mirrors-known l [] n = good (refl, none)
 mirrors-known l (r ∷ rest) n =
@@ -93,7 +93,7 @@ terms-low headings (more {r} {rs} low known) x b there = by (r .isBroader && eqb
     by true i rest = ⊎-elim (λ is. rw is low) rest (in-row i)
 
 -- there are as many as headings
-row-count : (l : Lists) (n x : ℕ) → length (broaderFrom l n x) ≡ n
+pub row-count : (l : Lists) (n x : ℕ) → length (broaderFrom l n x) ≡ n
 unfolding broaderFrom
 row-count l zero x = refl
 row-count l (suc n) x = ap suc (row-count l n (suc x))

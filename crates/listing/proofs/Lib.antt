@@ -11,3 +11,10 @@ pub mod LineWays
 pub mod NameWays
 pub mod TagWays
 pub mod NumberWays
+pub mod Sizes
+pub mod TermWays
+pub mod TermsRead
+pub mod TermsHeld
+pub mod TermsGoing
+pub mod TermsTold
+pub mod TermsNoted

@@ -10,4 +10,6 @@ pub mod Levels
 pub mod Circle
 pub mod Told
 pub mod Saved
+pub mod TermRows
+pub mod Gathering
 pub mod Cases

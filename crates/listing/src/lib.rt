@@ -1,2 +1,4 @@
 // Books from the tagged listing, and the circle named before the night.
+mod judge;
 mod lines;
+mod terms;
