@@ -11,3 +11,6 @@ pub mod LineWays
 pub mod NameWays
 pub mod TagWays
 pub mod NumberWays
+pub mod JudgeWays
+pub mod TwiceWays
+pub mod MirrorWays

@@ -17,7 +17,7 @@ pub enum Form {
 }
 
 // The place of the newline that ends the line at `at`; the length of the listing if none does.
-fn line_end(s: &[u8], at: usize) -> usize
+pub(crate) fn line_end(s: &[u8], at: usize) -> usize
     ensures { λ r. ⌜ r ≡ endOf (now (s .entry)) at ⌝ }
 {
     let mut i = at;
@@ -63,7 +63,7 @@ fn is_name(s: &[u8], from: usize, to: usize) -> bool
 }
 
 // The same bytes stand from a to end and from b to until.
-fn same(s: &[u8], a: usize, end: usize, b: usize, until: usize) -> bool
+pub(crate) fn same(s: &[u8], a: usize, end: usize, b: usize, until: usize) -> bool
     requires { ⌜ (end ≤ length (now s)) × (until ≤ length (now s)) ⌝ }
     ensures { λ r. ⌜ r ≡ sameBytes (bytesOf (now (s .entry)) a end) (bytesOf (now (s .entry)) b until) ⌝ }
 {
@@ -109,7 +109,7 @@ fn is_tag(s: &[u8], at: usize, to: usize, letter: u8) -> bool
 }
 
 // The form of the line from `at` to its newline at `to`.
-fn form_of(s: &[u8], at: usize, to: usize) -> Form
+pub(crate) fn form_of(s: &[u8], at: usize, to: usize) -> Form
     requires { ⌜ (at ≤ to) × (to ≤ length (now s)) ⌝ }
     ensures { λ r. ⌜ lineBy r (bytesOf (now (s .entry)) at to) ≡ lineOf (bytesOf (now (s .entry)) at to) ⌝ }
 {
@@ -151,7 +151,7 @@ fn heading_at(s: &[u8], at: usize, to: usize, from: usize, until: usize) -> usiz
 }
 
 // "Headings are numbered by their own lines": the number of the heading with the name from `from` to `until`; as many as there are, if none has it.
-fn number_of(s: &[u8], from: usize, until: usize) -> usize
+pub(crate) fn number_of(s: &[u8], from: usize, until: usize) -> usize
     requires { ⌜ until ≤ length (now s) ⌝ }
     ensures { λ r. ⌜ r ≡ numberOf (bytesOf (now (s .entry)) from until) (headingsOf (linesOf (now (s .entry)))) ⌝ }
 {
