@@ -4,17 +4,17 @@ use mathlib.Core.Path.{_≡_, refl, sym, ap, _∙_}
 use mathlib.Core.List.{List, [], _∷_}
 use Prim.Native.Nat.{ℕ, suc, _+_, _-_, _≤_, _<_}
 use native.Mathlib.Omega.{arith}
-use borrow.Author.Tests.{eq-eqb, ne-eqb}
+use borrow.Author.Tests.{eq-eqb, ne-eqb, lt-ltb, le-ltb}
 use lib.Dec.{eqb}
 use lib.ListN.{length, drop, take, length-drop}
 use Rattle.listing.specs.Lines.{Name, Line, heading, broader, narrower, other, newline, isName, same, bt, nt, lineOf, linesFrom, linesOf}
 use Rattle.listing.specs.Listing.{headingsOf}
 use Rattle.listing.specs.Places.{runOf, endOf, bytesOf}
 use Rattle.listing.specs.InCode.{lineBy}
-use Rattle.listing.specs.Judging.{kindOf, worth, goodLines, nextHeading, nameAt, lineAt}
+use Rattle.listing.specs.Judging.{kindOf, worth, goodLines, FormsAs, nextHeading, nameAt, lineAt}
 use Rattle.listing.specs.declared.lines.Form.{Form}
 use Rattle.listing.specs.declared.lines.Form.the-variants.{Heading, Broader, Narrower, Other}
-use Rattle.listing.proofs.LineWays.{end-past}
+use Rattle.listing.proofs.LineWays.{end-past, line-at, line-cut-at, lines-past}
 use Rattle.listing.proofs.NameWays.{bytes-none}
 use Rattle.listing.proofs.TagWays.{tag-long, name-behind, line-broader, line-no-broader, line-narrower, line-no-narrower, line-heading, line-other}
 
@@ -189,3 +189,57 @@ lines-all s = refl
 -- before the first heading
 pub name-past : (s : List ℕ) → nameAt s (length s) ≡ []
 name-past s = bytes-none s (length s) (endOf s (length s)) (omega (arith, end-past s (length s) (omega arith)))
+
+-- ---- the forms of all lines: what is so at place `at`, behind so many good lines and headings
+
+pub record FormsSoFar (s : List ℕ) (lines headings at : ℕ) : Type 0 where
+  pub good : goodLines 0 (linesOf s) ≡ lines + goodLines headings (linesAt s at)
+  pub all : length (linesOf s) ≡ lines + length (linesAt s at)
+  pub heads : length (headingsOf (linesOf s)) ≡ headings + length (headingsOf (linesAt s at))
+
+pub forms-start : (s : List ℕ) → FormsSoFar s 0 0 0
+unfolding linesOf
+forms-start s = record { good = omega arith; all = omega arith; heads = omega arith }
+
+module _ (s : List ℕ) (lines headings at : ℕ) (so : FormsSoFar s lines headings at) where
+  pub forms-end : length s ≤ at → FormsAs (record { lines = lines; bad = false; headings = headings }) (linesOf s)
+  unfolding goodLines headingsOf
+  forms-end over =
+      let none = lines-past s at over in
+      let good : goodLines 0 (linesOf s) ≡ lines = omega (arith, so .good, ap (goodLines headings) none) in
+      record {
+        good = sym good;
+        bad = sym (le-ltb (goodLines 0 (linesOf s)) (length (linesOf s)) (omega (arith, so .all, ap length none)));
+        headings = λ _. omega (arith, so .heads, ap (λ l. length (headingsOf l)) none)
+      }
+
+  told-bad : goodLines headings (linesAt s at) ≡ 0 → 0 < length (linesAt s at) → FormsAs (record { lines = lines; bad = true; headings = headings }) (linesOf s)
+  told-bad none some =
+      let good : goodLines 0 (linesOf s) ≡ lines = omega (arith, so .good) in
+      record {
+        good = sym good;
+        bad = sym (lt-ltb (goodLines 0 (linesOf s)) (length (linesOf s)) (omega (arith, so .all)));
+        headings = λ e. absurd (let z : _≡_ {A = ℕ} 0 1 = cc in omega arith)
+      }
+
+  pub forms-cut : at < length s → length s ≤ endOf s at → FormsAs (record { lines = lines; bad = true; headings = headings }) (linesOf s)
+  unfolding goodLines
+  forms-cut some over =
+      let one = line-cut-at s at some over in
+      told-bad (ap (goodLines headings) one) (omega (arith, ap length one))
+
+  module _ (inside : endOf s at < length s) where
+    pub forms-bad : worth headings (lineAt s at) ≡ 0 → FormsAs (record { lines = lines; bad = true; headings = headings }) (linesOf s)
+    forms-bad is =
+        let one = line-at s at inside in
+        told-bad (ap (goodLines headings) one ∙ good-none headings (linesAt s (endOf s at + 1)) (lineAt s at) is) (omega (arith, ap length one))
+
+    pub forms-on : (worth headings (lineAt s at) ≡ 0 → ⊥) → FormsSoFar s (lines + 1) (headings + (worth headings (lineAt s at) - 1)) (endOf s at + 1)
+    forms-on not-0 =
+        let one = line-at s at inside in
+        let rest = linesAt s (endOf s at + 1) in
+        record {
+          good = omega (arith, so .good, ap (goodLines headings) one, good-some headings rest (lineAt s at) not-0);
+          all = omega (arith, so .all, ap length one);
+          heads = omega (arith, so .heads, ap (λ l. length (headingsOf l)) one, heads-some headings rest (lineAt s at) not-0)
+        }

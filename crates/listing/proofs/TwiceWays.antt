@@ -9,10 +9,12 @@ use borrow.Author.Tests.{lt-ltb, le-ltb}
 use lib.Dec.{ltb, leb·suc-suc, leb·suc-zero}
 use lib.ListN.{length, getD, take, drop, length-drop}
 use lib.Seq.{take-suc, getD-drop, drop-drop, drop-cons}
-use Rattle.listing.specs.Lines.{Name, Line, heading, broader, narrower, other, same, lineOf}
+use Rattle.listing.specs.Lines.{Name, Line, heading, broader, narrower, other, same, lineOf, linesOf}
+use Rattle.listing.specs.Places.{endOf}
 use Rattle.listing.specs.Listing.{numberOf, headingsOf, isHeading}
-use Rattle.listing.specs.Judging.{kindOf, twiceFrom, givenBy}
-use Rattle.listing.proofs.JudgeWays.{heading-bytes}
+use Rattle.listing.specs.Judging.{kindOf, twiceFrom, givenBy, lineAt}
+use Rattle.listing.proofs.LineWays.{line-at, line-cut-at, lines-past}
+use Rattle.listing.proofs.JudgeWays.{linesAt, heading-bytes}
 
 -- among the first k headings, by the number among all
 number-first : (name : Name) (hs : List Name) (k : ℕ) → k ≤ length hs → ltb (numberOf name hs) k ≡ isHeading name (take k hs)
@@ -88,13 +90,14 @@ module _ (hs : List Name) (k : ℕ) where
       behind-it : headingsOf rest ≡ drop (k + 1) hs
       behind-it = rw (add-one k) (ap (drop 1) above ∙ drop-drop 1 k hs ∙ ap (λ n. drop n hs) (add-one k))
 
-  module _ (n : ℕ) (rest : List Line) where
+  -- of the rest some may be left out
+  module _ (n : ℕ) (rest some : List Line) where
     pub twice-on : (l : Line) → headingsOf (l ∷ rest) ≡ drop k hs → (givenBy (take k hs) l ≡ 2 → ⊥)
-        → twiceFrom (take k hs) n (l ∷ rest) ≡ twiceFrom (take (k + givenBy (take k hs) l) hs) (n + 1) rest
+        → twiceFrom (take k hs) n (l ∷ some) ≡ twiceFrom (take (k + givenBy (take k hs) l) hs) (n + 1) some
     unfolding twiceFrom headingsOf
     twice-on (heading x) above not-2 = by (isHeading x (take k hs)) not-2
       where
-        by : (t : Bool) → (givenOne t ≡ 2 → ⊥) → (elim t [ true ↦ n | false ↦ twiceFrom (take k hs ++ (x ∷ [])) (suc n) rest ]) ≡ twiceFrom (take (k + givenOne t) hs) (n + 1) rest
+        by : (t : Bool) → (givenOne t ≡ 2 → ⊥) → (elim t [ true ↦ n | false ↦ twiceFrom (take k hs ++ (x ∷ [])) (suc n) some ]) ≡ twiceFrom (take (k + givenOne t) hs) (n + 1) some
         by true not-2 = absurd (not-2 refl)
         by false not-2 = rw (with-it x rest above, add-one n) refl
     twice-on (broader x) above not-2 = let e : k + 0 ≡ k = omega arith in rw (e, add-one n) refl
@@ -134,3 +137,59 @@ pub twice-cut : (hs : List Name) (n k : ℕ) → twiceFrom hs n (take k (other �
 unfolding twiceFrom
 twice-cut hs n zero = refl
 twice-cut hs n (suc k) = twice-none hs (suc n) k
+
+-- ---- by places: what is so at place `at`, where the line `line` stands behind so many headings
+
+pub record TwiceSoFar (s : List ℕ) (lines line headings at : ℕ) : Type 0 where
+  pub few : headings ≤ length (headingsOf (linesOf s))
+  pub above : headingsOf (linesAt s at) ≡ drop headings (headingsOf (linesOf s))
+  pub told : twiceFrom [] 1 (take lines (linesOf s)) ≡ twiceFrom (take headings (headingsOf (linesOf s))) line (take (lines + 1 - line) (linesAt s at))
+
+pub twice-start : (s : List ℕ) (lines : ℕ) → TwiceSoFar s lines 1 0 0
+unfolding linesOf
+twice-start s lines =
+    let e : lines + 1 - 1 ≡ lines = omega arith in
+    record { few = omega arith; above = refl; told = rw e refl }
+
+module _ (s : List ℕ) (lines line headings at : ℕ) (so : TwiceSoFar s lines line headings at) where
+  abbrev Told : ℕ → Type 0
+  Told r = r ≡ twiceFrom [] 1 (take lines (linesOf s))
+
+  abbrev hs : List Name
+  hs = headingsOf (linesOf s)
+
+  pub twice-end : length s ≤ at → Told 0
+  twice-end over = sym (so .told ∙ rw (lines-past s at over) (twice-none (take headings hs) line (lines + 1 - line)))
+
+  pub twice-cut-at : at < length s → length s ≤ endOf s at → Told 0
+  twice-cut-at some over = sym (so .told ∙ rw (line-cut-at s at some over) (twice-cut (take headings hs) line (lines + 1 - line)))
+
+  pub twice-over : lines < line → Told 0
+  unfolding twiceFrom
+  twice-over past =
+      let e : lines + 1 - line ≡ 0 = omega arith in
+      sym (so .told ∙ rw e refl)
+
+  module _ (inside : endOf s at < length s) (within : line ≤ lines) where
+    abbrev rest : List Line
+    rest = linesAt s (endOf s at + 1)
+
+    one : take (lines + 1 - line) (linesAt s at) ≡ lineAt s at ∷ take (lines + 1 - (line + 1)) rest
+    one =
+        let e : lines + 1 - line ≡ suc (lines + 1 - (line + 1)) = omega arith in
+        rw (e, line-at s at inside) refl
+
+    pub twice-told : givenBy (take headings hs) (lineAt s at) ≡ 2 → Told line
+    twice-told is = sym (so .told ∙ rw one (twice-here (take headings hs) line (lineAt s at) _ is))
+
+    module _ (not-2 : givenBy (take headings hs) (lineAt s at) ≡ 2 → ⊥) where
+      here : headingsOf (lineAt s at ∷ rest) ≡ drop headings hs
+      here = sym (ap headingsOf (line-at s at inside)) ∙ so .above
+
+      pub twice-more : TwiceSoFar s lines (line + 1) (headings + givenBy (take headings hs) (lineAt s at)) (endOf s at + 1)
+      twice-more =
+          record {
+            few = few-on hs headings rest (lineAt s at) here not-2 (so .few);
+            above = above-on hs headings rest (lineAt s at) here not-2;
+            told = so .told ∙ rw one (twice-on hs headings line rest (take (lines + 1 - (line + 1)) rest) (lineAt s at) here not-2)
+          }
