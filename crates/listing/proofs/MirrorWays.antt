@@ -6,12 +6,12 @@ use Prim.Native.Nat.{ℕ, suc, _+_, _≤_, _<_}
 use native.Mathlib.Omega.{arith}
 use native.Mathlib.Numerals.{add-one}
 use lib.ListN.{length, take, drop}
-use Rattle.listing.specs.Lines.{Name, Line, heading, broader, narrower, other, same, bt, nt, lineOf}
+use Rattle.listing.specs.Lines.{Name, Line, heading, broader, narrower, other, same, bt, nt, lineOf, linesOf}
 use Rattle.listing.specs.Places.{endOf, bytesOf}
 use Rattle.listing.specs.Judging.{kindOf, mirrorLines, nextHeading, mirrorIn, isRelation, wants, unmirroredFrom, nameAt, lineAt}
 use Rattle.listing.proofs.LineWays.{end-after}
 use Rattle.listing.proofs.TagWays.{tag-long, name-behind}
-use Rattle.listing.proofs.JudgeWays.{Formed, is-heading, is-broader, is-narrower, is-other, formed, end-within}
+use Rattle.listing.proofs.JudgeWays.{linesAt, Formed, is-heading, is-broader, is-narrower, is-other, formed, end-within}
 
 -- ---- two lines
 
@@ -149,3 +149,7 @@ module _ (all : List Line) (h : Name) where
     pub unmirrored-cut : unmirroredFrom all h n (other ∷ []) ≡ 0
     unfolding unmirroredFrom
     unmirrored-cut = refl
+
+pub unmirrored-all : (s : List ℕ) → unmirroredFrom (linesOf s) [] 1 (linesOf s) ≡ unmirroredFrom (linesOf s) [] 1 (linesAt s 0)
+unfolding linesOf
+unmirrored-all s = refl
