@@ -210,7 +210,7 @@ module _ (s : List ℕ) (lines headings at : ℕ) (so : FormsSoFar s lines headi
       record {
         good = sym good;
         bad = sym (le-ltb (goodLines 0 (linesOf s)) (length (linesOf s)) (omega (arith, so .all, ap length none)));
-        headings = λ _. omega (arith, so .heads, ap (λ l. length (headingsOf l)) none)
+        headings = λ _. omega (arith, so .heads, ap (λ l. length (headingsOf l)) none);
       }
 
   told-bad : goodLines headings (linesAt s at) ≡ 0 → 0 < length (linesAt s at) → FormsAs (record { lines = lines; bad = true; headings = headings }) (linesOf s)
@@ -219,7 +219,7 @@ module _ (s : List ℕ) (lines headings at : ℕ) (so : FormsSoFar s lines headi
       record {
         good = sym good;
         bad = sym (lt-ltb (goodLines 0 (linesOf s)) (length (linesOf s)) (omega (arith, so .all)));
-        headings = λ e. absurd (let z : _≡_ {A = ℕ} 0 1 = cc in omega arith)
+        headings = λ e. absurd (let z : _≡_ {A = ℕ} 0 1 = cc in omega arith);
       }
 
   pub forms-cut : at < length s → length s ≤ endOf s at → FormsAs (record { lines = lines; bad = true; headings = headings }) (linesOf s)
@@ -241,5 +241,5 @@ module _ (s : List ℕ) (lines headings at : ℕ) (so : FormsSoFar s lines headi
         record {
           good = omega (arith, so .good, ap (goodLines headings) one, good-some headings rest (lineAt s at) not-0);
           all = omega (arith, so .all, ap length one);
-          heads = omega (arith, so .heads, ap (λ l. length (headingsOf l)) one, heads-some headings rest (lineAt s at) not-0)
+          heads = omega (arith, so .heads, ap (λ l. length (headingsOf l)) one, heads-some headings rest (lineAt s at) not-0);
         }

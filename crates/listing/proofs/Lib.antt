@@ -14,3 +14,6 @@ pub mod NumberWays
 pub mod JudgeWays
 pub mod TwiceWays
 pub mod MirrorWays
+pub mod JudgeParts
+pub mod MirrorParts
+pub mod JudgeWhole

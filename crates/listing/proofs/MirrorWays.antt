@@ -56,6 +56,7 @@ behind-tag s p inside two = by (formed (nameAt s p))
   where
     within : endOf s p ≤ length s
     within = end-within s p inside
+
     by : Formed (nameAt s p) → drop 5 (nameAt s p) ≡ bytesOf s (p + 5) (endOf s p)
     by (is-heading e) = absurd (omega (arith, ap kindOf e))
     by (is-broader t e) = name-behind s p (endOf s p) within (tag-long s p (endOf s p) within 66 t)
@@ -109,6 +110,7 @@ module _ (h : Name) (l : Line) (g : Name) where
       mirror-other h g (broader x) = refl
       mirror-other h g (narrower x) = refl
       mirror-other h g other = refl
+
       by : (t : Bool) → false ≡ t → (t || false) ≡ false
       by true e = sym e
       by false e = refl

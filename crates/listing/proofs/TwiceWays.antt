@@ -76,10 +76,10 @@ module _ (hs : List Name) (k : ℕ) where
 
   module _ (x : Name) (rest : List Line) where
     module _ (above : x ∷ headingsOf rest ≡ drop k hs) where
-      one-more : k < length hs
+      pub one-more : k < length hs
       one-more = omega (arith, ap length above, length-drop k hs)
 
-      the-next : getD hs k [] ≡ x
+      pub the-next : getD hs k [] ≡ x
       the-next =
           let e : k + 0 ≡ k = omega arith in
           ap (λ n. getD hs n []) (sym e) ∙ sym (getD-drop k hs 0 []) ∙ ap (λ l. getD l 0 []) (sym above)
@@ -87,7 +87,7 @@ module _ (hs : List Name) (k : ℕ) where
       with-it : take k hs ++ (x ∷ []) ≡ take (k + 1) hs
       with-it = rw (add-one k, take-suc hs k [] one-more, the-next) refl
 
-      behind-it : headingsOf rest ≡ drop (k + 1) hs
+      pub behind-it : headingsOf rest ≡ drop (k + 1) hs
       behind-it = rw (add-one k) (ap (drop 1) above ∙ drop-drop 1 k hs ∙ ap (λ n. drop n hs) (add-one k))
 
   -- of the rest some may be left out
@@ -191,5 +191,5 @@ module _ (s : List ℕ) (lines line headings at : ℕ) (so : TwiceSoFar s lines 
           record {
             few = few-on hs headings rest (lineAt s at) here not-2 (so .few);
             above = above-on hs headings rest (lineAt s at) here not-2;
-            told = so .told ∙ rw one (twice-on hs headings line rest (take (lines + 1 - (line + 1)) rest) (lineAt s at) here not-2)
+            told = so .told ∙ rw one (twice-on hs headings line rest (take (lines + 1 - (line + 1)) rest) (lineAt s at) here not-2);
           }

@@ -8,11 +8,11 @@ ghost use Rattle.listing.specs.Listing.{headingsOf, broaderIn};
 ghost use Rattle.listing.specs.TermRows.{JudgedAs};
 ghost use Rattle.listing.specs.Places.{endOf};
 ghost use Rattle.listing.specs.Judging.{kindOf, worth, FormsAs, givenBy, twiceFrom, mirrorLines, nextHeading, mirrorIn, wants, unmirroredFrom, nameAt, lineAt};
+use super::lines::Form;
 use super::lines::form_of;
 use super::lines::line_end;
 use super::lines::number_of;
 use super::lines::same;
-use super::lines::Form;
 
 // 0 and how many headings there are, or the refusal and its line.
 pub struct Verdict {

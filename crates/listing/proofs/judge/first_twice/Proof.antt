@@ -90,9 +90,11 @@ loop-again c =
     let to = c .before .before .before .before .line-end .ensures in
     let given = c .before .given-at .ensures in
     let small = given-small (take (loop .headings) (headingsOf (linesOf s))) (lineAt s (loop .at)) in
-    let one : c .before .given-at .result ≤ 1 = omega (arith, c .if3 .left) in
-    (omega (arith, loop .inv .0), omega (arith, loop .inv .1),
-      rw (to, given) (twice-more s (a .lines) (loop .line) (loop .headings) (loop .at) (loop .inv .2) (omega arith) (omega arith) (λ e. c .if3 .left (given ∙ e))))
+    let one : c .before .given-at .result ≤ 1 = omega (arith, c .if3 .left) in (
+      omega (arith, loop .inv .0),
+      omega (arith, loop .inv .1),
+      rw (to, given) (twice-more s (a .lines) (loop .line) (loop .headings) (loop .at) (loop .inv .2) (omega arith) (omega arith) (λ e. c .if3 .left (given ∙ e))),
+    )
 
 returns-4 : tie.Need-returns-4 Inv-loop μ-loop
 returns-4 c =
