@@ -18,3 +18,9 @@ pub mod TermsHeld
 pub mod TermsGoing
 pub mod TermsTold
 pub mod TermsNoted
+pub mod JudgeWays
+pub mod TwiceWays
+pub mod MirrorWays
+pub mod JudgeParts
+pub mod MirrorParts
+pub mod JudgeWhole

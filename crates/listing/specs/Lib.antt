@@ -12,4 +12,5 @@ pub mod Told
 pub mod Saved
 pub mod TermRows
 pub mod Gathering
+pub mod Judging
 pub mod Cases
