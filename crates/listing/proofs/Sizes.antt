@@ -13,7 +13,8 @@ use Rattle.symbols.specs.Symbols.{Symbol, Symbols}
 use Rattle.expressions.specs.Expressions.{Expr, Exprs}
 use Rattle.book.specs.Trees.{Tree, Trees}
 use Rattle.listing.specs.Listing.{Broader}
-use Rattle.listing.specs.Terms.{term, operation, symbolsFor, termOf, aboveOf, nested, firstOf, secondOf, rulesBefore, exemptBefore, firstRules, secondRules, treesFor, rulesFor}
+use Rattle.listing.specs.Terms.{term, operation, symbolsFor, nested, firstOf, secondOf, rulesBefore, exemptBefore}
+use Rattle.listing.specs.Terms.{firstRules, secondRules, treesFor, rulesFor}
 use Rattle.listing.specs.Laid.{symbolLaid, symbolsLaid, exprLaid, rowLaid, treeLaid, lengthFirst, treesLaid, laid}
 use Rattle.listing.specs.Write.{nodesOf, nodesOfRow, someOver, passes}
 

@@ -10,7 +10,8 @@ use lib.ListN.{length, getD, length-append}
 use Rattle.reading.specs.Reading.{Reading, got, refusal, _then_, refuse_at_if_else_}
 use Rattle.reading.proofs.Good.{Good, good, refused, good-got, each, whenever, then-good, unless}
 use Rattle.listing.specs.Lines.{Name, Line, heading, broader, narrower, other, linesOf}
-use Rattle.listing.specs.Listing.{Relation, Lists, Broader, numberOf, headingsOf, isHeading, relation, listsFrom, listsOf, mirroredFrom, broaderOf, broaderFrom, broaderIn}
+use Rattle.listing.specs.Listing.{Relation, Lists, Broader, numberOf, headingsOf, relation, listsFrom, listsOf, mirroredFrom}
+use Rattle.listing.specs.Listing.{broaderOf, broaderFrom, broaderIn}
 use Rattle.listing.proofs.Accepted.{Known, none, more, mirrors-known, row-count}
 
 -- ---- what all lines give
