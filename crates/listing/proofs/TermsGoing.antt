@@ -232,7 +232,8 @@ module _ (s : List ℕ) (at : ℕ) (sum : Sum) (from to : List ℕ) (g : Going s
     module _ (within : Within sum) where
       room-for : (line : Line) → listsFrom (g .headings) (g .relations) (g .n) (line ∷ rest) ≡ got (g .read .lists) (g .read .last) → RoomFor names line sum
       room-for (heading name) is =
-          let all = all-headings (g .headings ++ (name ∷ [])) (g .relations) (suc (g .n)) rest (past-heading (g .headings) (g .relations) (g .n) name rest is) in
+          let on = past-heading (g .headings) (g .relations) (g .n) name rest is in
+          let all = all-headings (g .headings ++ (name ∷ [])) (g .relations) (suc (g .n)) rest on in
           let long = ap length all ∙ length-append (g .headings ++ (name ∷ [])) (headingsOf rest) in
           omega (arith, long, length-append (g .headings) (name ∷ []), g .held .count, many, g .few)
       room-for (broader name) is =
@@ -371,5 +372,7 @@ module _ (s : List ℕ) (at : ℕ) (sum : Sum) (from to : List ℕ) (g : Going s
             filled = λ x low. omega (arith, g .held .filled x low, within .terms, within .size);
             inside = λ i low. omega (arith, g .held .inside i (omega (arith, g .held .ends)), many, count-done);
           });
-          rows = rw (from-told, to-told, ← count-done) (rows-held names (g .relations) from to count 0 (λ y low. g .held .rows y (omega arith)) ∙ sym told-done);
+          rows =
+              let held = rows-held names (g .relations) from to count 0 (λ y low. g .held .rows y (omega arith)) in
+              rw (from-told, to-told, ← count-done) (held ∙ sym told-done);
         }))
