@@ -13,7 +13,8 @@ use Rattle.symbols.specs.Symbols.{Symbol, Symbols}
 use Rattle.expressions.specs.Expressions.{Expr, Exprs}
 use Rattle.book.specs.Trees.{Tree, Trees}
 use Rattle.listing.specs.Listing.{Broader}
-use Rattle.listing.specs.Terms.{term, operation, symbolsFor, termOf, aboveOf, nested, firstOf, secondOf, rulesBefore, exemptBefore, firstRules, secondRules, treesFor, rulesFor}
+use Rattle.listing.specs.Terms.{term, operation, symbolsFor, nested, firstOf, secondOf, rulesBefore, exemptBefore}
+use Rattle.listing.specs.Terms.{firstRules, secondRules, treesFor, rulesFor}
 use Rattle.listing.specs.Laid.{symbolLaid, symbolsLaid, exprLaid, rowLaid, treeLaid, lengthFirst, treesLaid, laid}
 use Rattle.listing.specs.Write.{nodesOf, nodesOfRow, someOver, passes}
 
@@ -144,7 +145,8 @@ module _ (broader : Broader) where
   book-bytes =
       let sy = symbolsLaid (symbolsFor n) in
       let tr = treesLaid (symbolsFor n) (treesFor broader) in
-      omega (arith, length-append (lengthFirst sy) (lengthFirst tr), symbols-bytes n, trees-bytes, rules-append (firstRules broader) (secondRules n broader), heading-rules n broader)
+      let both = length-append (lengthFirst sy) (lengthFirst tr) in
+      omega (arith, both, symbols-bytes n, trees-bytes, rules-append (firstRules broader) (secondRules n broader), heading-rules n broader)
 
 -- ---- when a size is passed
 
@@ -191,7 +193,8 @@ first-few (b ∷ bs) short = omega (arith, nest-nodes (first-leaves (b ∷ bs)),
 seconds-over : (n : ℕ) (broader : Broader) (y : ℕ) → 17 ≤ length (getD broader y []) → someOver (secondRules n broader) ≡ true
 unfolding secondRules someOver
 seconds-over n [] y long = absurd (omega arith)
-seconds-over n (bs ∷ rest) zero long = or-left _ (someOver (secondRules n rest)) (lt-ltb mostExpressionNodes (nodesOf (nested (secondOf n bs))) (second-over n bs long))
+seconds-over n (bs ∷ rest) zero long =
+    or-left _ (someOver (secondRules n rest)) (lt-ltb mostExpressionNodes (nodesOf (nested (secondOf n bs))) (second-over n bs long))
 seconds-over n (bs ∷ rest) (suc y) long = or-right (ltb mostExpressionNodes (nodesOf (nested (secondOf n bs)))) _ (seconds-over n rest y long)
 
 -- each heading has 16 at most
@@ -242,6 +245,7 @@ module _ (broader : Broader) where
   pub passes-none : many ≤ 341 → Short broader → 5 + allBytes broader ≤ 32768 → passes broader ≡ false
   unfolding passes
   passes-none few short small =
+      let nodes = none-append (firstRules broader) (secondRules many broader) (firsts-few broader short) (seconds-few many broader short) in
       or-none _ _
-      (or-none _ _ (le-ltb mostSymbols (many + (many + many)) (omega arith)) (none-append (firstRules broader) (secondRules many broader) (firsts-few broader short) (seconds-few many broader short)))
+      (or-none _ _ (le-ltb mostSymbols (many + (many + many)) (omega arith)) nodes)
       (le-ltb mostBookBytes bytes (omega (arith, book-bytes broader)))

@@ -21,12 +21,14 @@ use Rattle.listing.proofs.Accepted.{row-count}
 use Rattle.listing.proofs.LineWays.{line-at, line-cut-at, lines-past}
 use Rattle.listing.proofs.Sizes.{headingBytes, allBytes, Short, book-bytes, passes-row, passes-bytes, passes-none}
 use Rattle.listing.proofs.TermWays.{grown-small}
-use Rattle.listing.proofs.TermsRead.{Read, read-of, all-headings, more-relations, past-heading, past-broader, past-narrower, past-other, known-later, broader-append, broader-own, broader-others, narrower-none}
+use Rattle.listing.proofs.TermsRead.{Read, read-of, all-headings, more-relations, past-heading, past-broader, past-narrower, past-other}
+use Rattle.listing.proofs.TermsRead.{known-later, broader-append, broader-others, narrower-none}
 use Rattle.listing.proofs.TermsHeld.{Held, rowsOf, held-none, held-heading, held-narrower, held-broader, own-grown}
 
 -- ---- rows by their numbers
 
-pub row-at : (headings : List Name) (relations : List Relation) (n x y : ℕ) → y < n → getD (rowsOf headings relations n x) y [] ≡ broaderOf headings relations (x + y)
+pub row-at : (headings : List Name) (relations : List Relation) (n x y : ℕ) → y < n
+    → getD (rowsOf headings relations n x) y [] ≡ broaderOf headings relations (x + y)
 unfolding broaderFrom
 row-at headings relations zero x y low = absurd (omega arith)
 row-at headings relations (suc n) x zero low = let same : x + 0 ≡ x = omega arith in rw same refl
@@ -66,7 +68,8 @@ rows-rise headings front later (suc n) more x =
     let count : suc n + more ≡ suc (n + more) = omega arith in
     let row = broaderOf headings front x in
     let rest = broaderOf headings later x in
-    let long : length (broaderOf headings (front ++ later) x) ≡ length row + length rest = ap length (broader-append headings front later x) ∙ length-append row rest in
+    let long : length (broaderOf headings (front ++ later) x) ≡ length row + length rest =
+    ap length (broader-append headings front later x) ∙ length-append row rest in
     let wider = ap headingBytes long in
     rw count (omega (arith, rows-rise headings front later n more (suc x), bytes-rise (length row) (length rest), wider))
 
@@ -178,7 +181,8 @@ module _ (s : List ℕ) (at : ℕ) (sum : Sum) (from to : List ℕ) (g : Going s
           let rest = broaderOf names (later .0) y in
           let same : 0 + y ≡ y = omega arith in
           let here : getD (g .terms) y [] ≡ row ++ rest =
-          ap (λ l. getD l y []) told ∙ row-at names (g .relations ++ later .0) (length names) 0 y (omega (arith, so-far)) ∙ rw same (broader-append names (g .relations) (later .0) y) in
+          ap (λ l. getD l y []) told ∙ row-at names (g .relations ++ later .0) (length names) 0 y (omega (arith, so-far))
+          ∙ rw same (broader-append names (g .relations) (later .0) y) in
           passes-row (g .terms) y (omega (arith, ap length here, length-append row rest, g .held .own y is))
 
   over-size : 32768 < sum .size → passes (g .terms) ≡ true
@@ -228,7 +232,8 @@ module _ (s : List ℕ) (at : ℕ) (sum : Sum) (from to : List ℕ) (g : Going s
     module _ (within : Within sum) where
       room-for : (line : Line) → listsFrom (g .headings) (g .relations) (g .n) (line ∷ rest) ≡ got (g .read .lists) (g .read .last) → RoomFor names line sum
       room-for (heading name) is =
-          let all = all-headings (g .headings ++ (name ∷ [])) (g .relations) (suc (g .n)) rest (past-heading (g .headings) (g .relations) (g .n) name rest is) in
+          let on = past-heading (g .headings) (g .relations) (g .n) name rest is in
+          let all = all-headings (g .headings ++ (name ∷ [])) (g .relations) (suc (g .n)) rest on in
           let long = ap length all ∙ length-append (g .headings ++ (name ∷ [])) (headingsOf rest) in
           omega (arith, long, length-append (g .headings) (name ∷ []), g .held .count, many, g .few)
       room-for (broader name) is =
@@ -280,7 +285,9 @@ module _ (s : List ℕ) (at : ℕ) (sum : Sum) (from to : List ℕ) (g : Going s
               λ own y. by-short z (g .n) name y (omega (arith, grown)) (ℕ-discrete z y),
             )
           where
-            by-short : (z n : ℕ) (name : Name) (y : ℕ) → length (broaderOf names (g .relations ++ (record { line = n; under = z; isBroader = true; name = name } ∷ [])) z) ≤ 16 → Dec (z ≡ y)
+            by-short : (z n : ℕ) (name : Name) (y : ℕ)
+                → length (broaderOf names (g .relations ++ (record { line = n; under = z; isBroader = true; name = name } ∷ [])) z) ≤ 16
+                → Dec (z ≡ y)
                 → length (broaderOf names (g .relations ++ (record { line = n; under = z; isBroader = true; name = name } ∷ [])) y) ≤ 16
             by-short z n name y own (yes is) =
                 subst (λ k. length (broaderOf names (g .relations ++ (record { line = n; under = z; isBroader = true; name = name } ∷ [])) k) ≤ 16) is own
@@ -365,5 +372,7 @@ module _ (s : List ℕ) (at : ℕ) (sum : Sum) (from to : List ℕ) (g : Going s
             filled = λ x low. omega (arith, g .held .filled x low, within .terms, within .size);
             inside = λ i low. omega (arith, g .held .inside i (omega (arith, g .held .ends)), many, count-done);
           });
-          rows = rw (from-told, to-told, ← count-done) (rows-held names (g .relations) from to count 0 (λ y low. g .held .rows y (omega arith)) ∙ sym told-done);
+          rows =
+              let held = rows-held names (g .relations) from to count 0 (λ y low. g .held .rows y (omega arith)) in
+              rw (from-told, to-told, ← count-done) (held ∙ sym told-done);
         }))

@@ -55,7 +55,9 @@ unfolding broaderFrom
 rows-more headings relations zero x = let same : x + 0 ≡ x = omega arith in rw same refl
 rows-more headings relations (suc n) x =
     let next : suc x + n ≡ x + suc n = omega arith in
-    ap (λ l. broaderOf headings relations x ∷ l) (rows-more headings relations n (suc x) ∙ ap (λ k. rowsOf headings relations n (suc x) ++ (broaderOf headings relations k ∷ [])) next)
+    let rest = rowsOf headings relations n (suc x) in
+    let last = ap (λ k. rest ++ (broaderOf headings relations k ∷ [])) next in
+    ap (λ l. broaderOf headings relations x ∷ l) (rows-more headings relations n (suc x) ∙ last)
 
 -- rows that are alike
 rows-alike : (headings : List Name) (front later : List Relation) (n x : ℕ)
@@ -165,7 +167,9 @@ module _ (headings : List Name) (relations : List Relation) (x : ℕ) (sum : Sum
       where
         by-rising : (y : ℕ) → y < suc x → Dec (y ≡ x) → getD opened y 0 ≤ getD opened (suc y) 0
         by-rising y low (yes is) = rw is (omega (arith, opened-old x (omega arith), opened-new, h .ends))
-        by-rising y low (no differs) = omega (arith, opened-old y (omega arith), opened-old (suc y) (omega (arith, differs)), h .rising y (omega (arith, differs)))
+        by-rising y low (no differs) =
+            let before : y < x = omega (arith, differs) in
+            omega (arith, opened-old y (omega arith), opened-old (suc y) (omega arith), h .rising y before)
 
         by-filled : (y : ℕ) → y ≤ suc x → Dec (y ≡ suc x) → getD opened y 0 ≤ sum .terms
         by-filled y low (yes is) = rw is (omega (arith, opened-new))
@@ -286,9 +290,9 @@ module _ (headings : List Name) (relations : List Relation) (x : ℕ) (sum : Sum
             let next : suc z ≡ x = omega arith in
             let end : getD from (suc z) 0 ≡ sum .terms = rw next (h .ends) in
             let old : bytesOf to (getD from z 0) (sum .terms) ≡ broaderOf headings relations z = rw end at (h .rows z (omega arith)) in
-            rw (is, next, later-new, later-old z (omega arith))
-            (bytes-last to (sum .terms) term (getD from z 0) (h .filled z (omega arith)) (omega (arith, h .toLong)) ∙ ap (λ l. l ++ (term ∷ [])) old ∙ sym row-own)
+            let grown = bytes-last to (sum .terms) term (getD from z 0) (h .filled z (omega arith)) (omega (arith, h .toLong)) in
+            rw (is, next, later-new, later-old z (omega arith)) (grown ∙ ap (λ l. l ++ (term ∷ [])) old ∙ sym row-own)
         by-rows y low (no differs) =
             let next : suc y < x = omega (arith, differs) in
-            rw (later-old y low, later-old (suc y) next)
-            (bytes-before to (sum .terms) term (getD from y 0) (getD from (suc y) 0) (h .rising y low) (h .filled (suc y) (omega arith)) ∙ h .rows y low ∙ sym (row-other y (λ e. differs (sym e))))
+            let kept = bytes-before to (sum .terms) term (getD from y 0) (getD from (suc y) 0) (h .rising y low) (h .filled (suc y) (omega arith)) in
+            rw (later-old y low, later-old (suc y) next) (kept ∙ h .rows y low ∙ sym (row-other y (λ e. differs (sym e))))

@@ -10,7 +10,8 @@ use lib.ListN.{length, getD, length-append}
 use Rattle.reading.specs.Reading.{Reading, got, refusal, _then_, refuse_at_if_else_}
 use Rattle.reading.proofs.Good.{Good, good, refused, good-got, each, whenever, then-good, unless}
 use Rattle.listing.specs.Lines.{Name, Line, heading, broader, narrower, other, linesOf}
-use Rattle.listing.specs.Listing.{Relation, Lists, Broader, numberOf, headingsOf, isHeading, relation, listsFrom, listsOf, mirroredFrom, broaderOf, broaderFrom, broaderIn}
+use Rattle.listing.specs.Listing.{Relation, Lists, Broader, numberOf, headingsOf, relation, listsFrom, listsOf, mirroredFrom}
+use Rattle.listing.specs.Listing.{broaderOf, broaderFrom, broaderIn}
 use Rattle.listing.proofs.Accepted.{Known, none, more, mirrors-known, row-count}
 
 -- ---- what all lines give
@@ -47,7 +48,8 @@ module _ (headings : List Name) (relations : List Relation) (n : ℕ) (lines : L
 -- ---- one line that is not refused
 
 -- the test was passed, and the others follow
-passed : {A : Type 0} (c p : ℕ) (t : Bool) (next : Unit {0} → Reading A) {a : A} {q : ℕ} → refuse_at_if_else_ c p t next ≡ got a q → (t ≡ false) × (next tt ≡ got a q)
+passed : {A : Type 0} (c p : ℕ) (t : Bool) (next : Unit {0} → Reading A) {a : A} {q : ℕ}
+    → refuse_at_if_else_ c p t next ≡ got a q → (t ≡ false) × (next tt ≡ got a q)
 unfolding refuse_at_if_else_
 passed c p true next is = absurd (let z : _≡_ {A = ℕ} 0 1 = cc in omega arith)
 passed c p false next is = (refl, is)
@@ -137,7 +139,8 @@ module _ (headings : List Name) (front : List Relation) (n z : ℕ) (name : Name
   pub broader-others : (y : ℕ) → (z ≡ y → ⊥) → broaderOf headings (front ++ (one true ∷ [])) y ≡ broaderOf headings front y
   unfolding broaderOf
   broader-others y differs =
-      broader-append headings front (one true ∷ []) y ∙ ap (_++_ (broaderOf headings front y)) (rw (ne-eqb z y differs, broaderOf) refl) ∙ append-nil (broaderOf headings front y)
+      let row = broaderOf headings front y in
+      broader-append headings front (one true ∷ []) y ∙ ap (_++_ row) (rw (ne-eqb z y differs, broaderOf) refl) ∙ append-nil row
 
   -- an NT line says nothing of broader terms
   pub narrower-none : (y : ℕ) → broaderOf headings (front ++ (one false ∷ [])) y ≡ broaderOf headings front y

@@ -65,12 +65,12 @@ pub record Within (sum : Sum) : Type 0 where
   pub terms : 12 * sum .terms ≤ sum .size
   pub size : sum .size ≤ mostBookBytes
 
--- what a first broader term adds, and a further one: the rules of a heading without any are two bytes longer each than nothing
+-- the bytes that a heading's first broader term adds, in the place of two rules to fail, and a further one
 abbrev pub grownBy : ℕ → ℕ
 grownBy zero = 8
 grownBy (suc k) = 12
 
--- after a heading's own line: three symbols, and two rules to fail
+-- after a heading's own line: three symbols of 3 bytes, and two rules to fail, of 4 each
 abbrev pub sumOpened : Sum → Sum
 sumOpened sum = record { headings = sum .headings + 1; own = 0; terms = sum .terms; size = sum .size + 17 }
 

@@ -13,12 +13,19 @@ use super::lines::Form;
 use super::lines::form_of;
 use super::lines::line_end;
 use super::lines::same;
+use limits::Limits;
 
+// "1,024 symbols", of which each heading has three.
 pub const HEADINGS: usize = 341;
 
+// Where each heading's row opens, and where the last one ends.
 pub const ROWS: usize = 342;
 
+// More than enough: each term takes 12 bytes of a book's 32,768. The most that fit are 2,556, of 160 headings, in 32,757 bytes.
 pub const TERMS: usize = 2736;
+
+// "64 nodes in one expression": the rule for all terms above a heading has 4 k - 1, for k broader terms.
+const OWN: usize = 16;
 
 // 0, how many headings there are, the size of their book and the two rows; or the refusal and its line.
 pub struct Terms {
@@ -30,6 +37,7 @@ pub struct Terms {
     pub to: [u16; TERMS],
 }
 
+// "Nothing is written": the rows stay empty.
 fn refused(number: u8, line: usize) -> Terms
     ensures { λ r. ⌜ (r .number ≡ number) × (r .line ≡ line) ⌝ }
 {
@@ -121,7 +129,7 @@ pub struct Sum {
     pub size: usize,
 }
 
-// A first broader term takes the place of two rules to fail.
+// What one more broader term adds to the book: 4 bytes in the first rule and 8 in the second; the first one takes the place of two rules to fail.
 fn grown(own: usize) -> usize
     ensures { λ r. ⌜ r ≡ grownBy own ⌝ }
 {
@@ -131,7 +139,7 @@ fn grown(own: usize) -> usize
     12
 }
 
-// A heading's own line: its row opens where the last one ends.
+// A heading's own line: its row opens where the last one ends. Three symbols of 3 bytes and two rules to fail, of 4 each.
 fn open_row(sum: Sum, from: &mut [u16; ROWS]) -> Sum
     requires { ⌜ Within sum × (sum .headings < mostHeadings) ⌝ }
     ensures { λ r. ⌜ (r ≡ sumOpened sum) × (now (from .exit) ≡ set (now (from .entry)) (sum .headings + 1) (sum .terms)) ⌝ }
@@ -198,14 +206,14 @@ fn take_line(
     }
 }
 
-// "64 nodes in one expression", so 16 broader terms; "Book 32,768 bytes"
+// No size of document 01 is passed so far; "43" stands for each alike.
 fn is_within(sum: Sum) -> bool
     ensures { λ r. ⌜ r ≡ withinBy sum ⌝ }
 {
-    if 16 < sum.own {
+    if OWN < sum.own {
         return false;
     }
-    sum.size <= 32768
+    sum.size <= Limits::BOOK
 }
 
 // The terms of a good listing, in one pass over its lines; 43 as soon as a size is passed.

@@ -99,7 +99,8 @@ loop-again c =
 returns-2 : tie.Need-returns-2 Inv-loop μ-loop
 returns-2 c =
     let loop = c .before .loop in
-    told-fitting (c .before .before .before .before .before .before .args .s .now) (loop .at) (loop .sum) (loop .from) (loop .to) (loop .inv .0) (loop .inv .1) (omega arith) _ refl refl refl refl refl
+    let s = c .before .before .before .before .before .before .args .s .now in
+    told-fitting s (loop .at) (loop .sum) (loop .from) (loop .to) (loop .inv .0) (loop .inv .1) (omega arith) _ refl refl refl refl refl
 
 pub gathered-spec : {M : Type 1} → statement M
 gathered-spec =

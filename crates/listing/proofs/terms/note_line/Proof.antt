@@ -65,25 +65,29 @@ returns : tie.Need-returns
 returns c =
     let a = c .before .before .before .before .args in
     let found = c .before .before .form-of in
-    noted-heading (found .result) (bytesOf (a .s .now) (a .at) (a .end)) (found .ensures) (a .count) (a .at) (a .end) (a .opens .now) (a .ends .now) (c .enum-told .given .1)
+    let bs = bytesOf (a .s .now) (a .at) (a .end) in
+    noted-heading (found .result) bs (found .ensures) (a .count) (a .at) (a .end) (a .opens .now) (a .ends .now) (c .enum-told .given .1)
 
 returns-2 : tie.Need-returns-2
 returns-2 c =
     let a = c .before .before .before .before .args in
     let found = c .before .before .form-of in
-    noted-broader (found .result) (bytesOf (a .s .now) (a .at) (a .end)) (found .ensures) (a .count) (a .at) (a .end) (a .opens .now) (a .ends .now) (c .enum-told2 .given .1)
+    let bs = bytesOf (a .s .now) (a .at) (a .end) in
+    noted-broader (found .result) bs (found .ensures) (a .count) (a .at) (a .end) (a .opens .now) (a .ends .now) (c .enum-told2 .given .1)
 
 returns-3 : tie.Need-returns-3
 returns-3 c =
     let a = c .before .before .before .before .args in
     let found = c .before .before .form-of in
-    noted-narrower (found .result) (bytesOf (a .s .now) (a .at) (a .end)) (found .ensures) (a .count) (a .at) (a .end) (a .opens .now) (a .ends .now) (c .enum-told3 .given .1)
+    let bs = bytesOf (a .s .now) (a .at) (a .end) in
+    noted-narrower (found .result) bs (found .ensures) (a .count) (a .at) (a .end) (a .opens .now) (a .ends .now) (c .enum-told3 .given .1)
 
 returns-4 : tie.Need-returns-4
 returns-4 c =
     let a = c .before .before .before .before .args in
     let found = c .before .before .form-of in
-    noted-other (found .result) (bytesOf (a .s .now) (a .at) (a .end)) (found .ensures) (a .count) (a .at) (a .end) (a .opens .now) (a .ends .now) (c .enum-told4 .given .1)
+    let bs = bytesOf (a .s .now) (a .at) (a .end) in
+    noted-other (found .result) bs (found .ensures) (a .count) (a .at) (a .end) (a .opens .now) (a .ends .now) (c .enum-told4 .given .1)
 
 pub note-line-spec : {M : Type 1} → statement M
 note-line-spec =

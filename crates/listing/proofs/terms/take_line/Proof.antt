@@ -22,7 +22,8 @@ open-row-requires c κs =
     let a = start .args in
     let found = c .before .before .before .form-of in
     let bs = bytesOf (a .s .now) (a .at) (a .end) in
-    let room = room-heading (found .result) bs (found .ensures) (headingsOf (linesOf (a .s .now))) (a .sum) (c .before .enum-told .given .1) (start .pre .0 .3) in
+    let names = headingsOf (linesOf (a .s .now)) in
+    let room = room-heading (found .result) bs (found .ensures) names (a .sum) (c .before .enum-told .given .1) (start .pre .0 .3) in
     (start .pre .0 .2, room)
 
 enum-told-2 : tie.Need-enum-told-2
