@@ -6,8 +6,11 @@ pub mod Refused
 pub mod Pigeons
 pub mod Ways
 pub mod Levels
-pub mod Circle
+pub mod FirstCircle
 pub mod LineWays
 pub mod NameWays
 pub mod TagWays
 pub mod NumberWays
+pub mod SavingRows
+pub mod RoundWays
+pub mod MarkWays

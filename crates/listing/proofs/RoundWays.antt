@@ -1,0 +1,96 @@
+-- Rounds of chains: one round more, a round that changes nothing, and rounds that never settle.
+use mathlib.Core.Path.{_≡_, refl, sym, ap, _∙_}
+use mathlib.Core.Option.{Option, none, some}
+use mathlib.Core.List.{List, [], _∷_}
+use Prim.Native.Nat.{ℕ, zero, suc, max, _+_, _-_, _≤_, _<_}
+use native.Mathlib.Omega.{arith}
+use lib.ListN.{length, getD, take, replicate}
+use lib.Seq.{ext-getD}
+use Rattle.listing.specs.Listing.{Broader}
+use Rattle.listing.specs.Hops.{broaderOf, Hops, here, hop, HasCircle}
+use Rattle.listing.specs.Levels.{longest, chains, levels}
+use Rattle.listing.specs.Circle.{circle}
+use Rattle.listing.specs.Places.{bytesOf}
+use Rattle.listing.specs.Saving.{SameRow, RoundOf}
+use Rattle.listing.proofs.Ways.{chain-short}
+use Rattle.listing.proofs.Levels.{longest-over, chains-none, chains-more, chain-there, chain-most}
+use Rattle.listing.proofs.FirstCircle.{told}
+use Rattle.listing.proofs.SavingRows.{terms-more, terms-none}
+
+-- ---- the longest, term by term
+
+pub longest-more : (row to : List ℕ) (i e : ℕ) → i < e → e ≤ length to
+    → longest row (bytesOf to i e) ≡ max (suc (getD row (getD to i 0) 0)) (longest row (bytesOf to (i + 1) e))
+unfolding longest
+longest-more row to i e low within = ap (longest row) (terms-more to i e low within)
+
+pub longest-none : (row to : List ℕ) (i e : ℕ) → e ≤ i → longest row (bytesOf to i e) ≡ 0
+unfolding longest
+longest-none row to i e le = ap (longest row) (terms-none to i e le)
+
+longest-same : (a b bs : List ℕ) → SameRow a b → longest a bs ≡ longest b bs
+unfolding longest
+longest-same a b [] same = refl
+longest-same a b (x ∷ bs) same = cc (same x, longest-same a b bs same)
+
+longest-low : (row bs : List ℕ) (k : ℕ) → ((x : ℕ) → getD row x 0 ≤ k) → longest row bs ≤ suc k
+unfolding longest
+longest-low row [] k low = omega arith
+longest-low row (b ∷ bs) k low = omega (arith, low b, longest-low row bs k low)
+
+module _ (broader : Broader) where
+  abbrev n : ℕ
+  n = length broader
+
+  -- ---- one round
+
+  pub chain-low : (k x : ℕ) → getD (chains broader k) x 0 ≤ k
+  chain-low zero x = omega (arith, chains-none broader x)
+  chain-low (suc k) x = omega (arith, chains-more broader k x, longest-low (chains broader k) (broaderOf broader x) k (chain-low k))
+
+  pub round-chains : (k : ℕ) (row next : List ℕ) → SameRow row (chains broader k) → RoundOf broader row next → SameRow next (chains broader (suc k))
+  round-chains k row next same round x = round x ∙ longest-same row (chains broader k) (broaderOf broader x) same ∙ sym (chains-more broader k x)
+
+  -- ---- a round that changes nothing
+
+  abbrev Settled : ℕ → Type 0
+  Settled k = SameRow (chains broader (suc k)) (chains broader k)
+
+  -- each hop up is one less
+  falls : (k : ℕ) → Settled k → {j x y : ℕ} → Hops broader j x y → j + getD (chains broader k) y 0 ≤ getD (chains broader k) x 0
+  falls k same here = omega arith
+  falls k same {x = x} (hop there more) = omega (arith, falls k same more, longest-over (chains broader k) there, chains-more broader k x, same x)
+
+  no-circle : (k : ℕ) → Settled k → HasCircle broader → ⊥
+  no-circle k same (x, (j, hops)) = omega (arith, falls k same hops)
+
+  pub settled-clear : (k : ℕ) → Settled k → circle broader ≡ none
+  settled-clear k same = by (circle broader) refl
+    where
+      by : (o : Option (List ℕ)) → circle broader ≡ o → o ≡ none
+      by none is = refl
+      by (some c) is = absurd (no-circle k same (told broader .reported .1 (c, is)))
+
+  stays : (k : ℕ) → Settled k → (m j : ℕ) → j ≡ m + k → SameRow (chains broader j) (chains broader k)
+  stays k same zero j is x = let e : j ≡ k = omega arith in rw e refl
+  stays k same (suc m) j is x =
+      let e : j ≡ suc (m + k) = omega arith in
+      rw e (chains-more broader (m + k) x
+        ∙ longest-same (chains broader (m + k)) (chains broader k) (broaderOf broader x) (stays k same m (m + k) refl)
+        ∙ sym (chains-more broader k x) ∙ same x)
+
+  pub settled-levels : (k : ℕ) → k ≤ n → Settled k → SameRow (chains broader k) (levels broader)
+  unfolding levels
+  settled-levels k le same x = sym (stays k same (n - k) n (omega arith) x)
+
+  -- ---- rounds that never settle
+
+  pub clear-settled : circle broader ≡ none → Settled n
+  clear-settled is x =
+      let (y, longer) = chain-there broader (suc n) x in
+      let (z, long) = chain-there broader n x in
+      omega (arith, chain-most broader n (getD (chains broader (suc n)) x 0) longer (chain-short broader nobody (getD (chains broader (suc n)) x 0) longer),
+        chain-most broader (suc n) (getD (chains broader n) x 0) long (omega (arith, chain-low n x)))
+    where
+      nobody : HasCircle broader → ⊥
+      nobody has = let (c, named) = told broader .reported .0 has in let z : _≡_ {A = ℕ} 0 1 = cc in omega arith
