@@ -14,7 +14,7 @@ use Rattle.listing.specs.Listing.{Broader}
 use Rattle.listing.specs.Hops.{broaderOf}
 use Rattle.listing.specs.Circle.{someMarked, markAt, below, returns, firstReturn, lowest, wayTo, shortestFrom, circle}
 use Rattle.listing.specs.Places.{bytesOf}
-use Rattle.listing.specs.Saving.{SameMarks, HopOf, lowerOf, wayFrom}
+use Rattle.listing.specs.Saving.{SameMarks, HopOf, LowestAs, lowerOf, wayFrom}
 use Rattle.listing.proofs.FirstCircle.{below-more}
 use Rattle.listing.proofs.SavingRows.{terms-more, terms-none}
 
@@ -63,15 +63,6 @@ some-same : (a b : List Bool) (bs : List ℕ) → SameMarks a b → someMarked a
 unfolding someMarked
 some-same a b [] same = refl
 some-same a b (x ∷ bs) same = rw (same x, some-same a b bs same) refl
-
-lowest-same : (a b : List Bool) (bs : List ℕ) → SameMarks a b → length b ≤ length a → min (length b) (lowest a bs) ≡ lowest b bs
-unfolding lowest
-lowest-same a b [] same le = omega arith
-lowest-same a b (x ∷ bs) same le = by (getD b x false) refl (lowest-same a b bs same le)
-  where
-    by : (t : Bool) → getD b x false ≡ t → min (length b) (lowest a bs) ≡ lowest b bs → min (length b) (lowest a (x ∷ bs)) ≡ lowest b (x ∷ bs)
-    by true is rest = let has : getD a x false ≡ true = same x ∙ is in rw (is, has, lowest) (omega arith)
-    by false is rest = let has : getD a x false ≡ false = same x ∙ is in rw (is, has, lowest) rest
 
 -- a mark at x alone, of more headings
 no-mark : (m y : ℕ) → getD (replicate m false) y false ≡ false
@@ -193,14 +184,11 @@ module _ (broader : Broader) where
   way-on x zero here = refl
   way-on x (suc left) here = refl
 
-  -- as the code has it: the marks, and the lowest of more
-  pub way-more : (x left here : ℕ) (marks : List Bool) → SameMarks marks (below broader x left) → n ≤ length marks
-      → wayFrom broader x (left + 1) here ≡ here ∷ wayFrom broader x left (min n (lowest marks (broaderOf broader here)))
-  way-more x left here marks same le =
-      let long = below-long x left in
-      let next : min n (lowest marks (broaderOf broader here)) ≡ lowest (below broader x left) (broaderOf broader here) =
-        rw long at (lowest-same marks (below broader x left) (broaderOf broader here) same (omega arith)) in
-      rw (add-one, next) (way-on x left here)
+  -- as the code has it
+  pub way-more : (x left here next : ℕ) (marks : List Bool) → SameMarks marks (below broader x left) → LowestAs broader n marks here next
+      → wayFrom broader x (left + 1) here ≡ here ∷ wayFrom broader x left next
+  way-more x left here next marks same low =
+      rw (add-one, low (below broader x left) same (below-long x left)) (way-on x left here)
 
   pub way-done : (x here : ℕ) → wayFrom broader x 0 here ≡ []
   unfolding wayFrom

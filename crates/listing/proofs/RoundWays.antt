@@ -4,8 +4,8 @@ use mathlib.Core.Option.{Option, none, some}
 use mathlib.Core.List.{List, [], _∷_}
 use Prim.Native.Nat.{ℕ, zero, suc, max, _+_, _-_, _≤_, _<_}
 use native.Mathlib.Omega.{arith}
-use lib.ListN.{length, getD, take, replicate}
-use lib.Seq.{ext-getD}
+use native.Mathlib.Decide.{decLt}
+use lib.ListN.{length, getD, List·getD-eq-default}
 use Rattle.listing.specs.Listing.{Broader}
 use Rattle.listing.specs.Hops.{broaderOf, Hops, here, hop, HasCircle}
 use Rattle.listing.specs.Levels.{longest, chains, levels}
@@ -48,6 +48,11 @@ module _ (broader : Broader) where
   chain-low zero x = omega (arith, chains-none broader x)
   chain-low (suc k) x = omega (arith, chains-more broader k x, longest-low (chains broader k) (broaderOf broader x) k (chain-low k))
 
+  chains-past : (k x : ℕ) → n ≤ x → getD (chains broader k) x 0 ≡ 0
+  unfolding longest
+  chains-past zero x past = chains-none broader x
+  chains-past (suc k) x past = chains-more broader k x ∙ ap (longest (chains broader k)) (List·getD-eq-default broader [] {n = x} past)
+
   pub round-chains : (k : ℕ) (row next : List ℕ) → SameRow row (chains broader k) → RoundOf broader row next → SameRow next (chains broader (suc k))
   round-chains k row next same round x = round x ∙ longest-same row (chains broader k) (broaderOf broader x) same ∙ sym (chains-more broader k x)
 
@@ -55,6 +60,19 @@ module _ (broader : Broader) where
 
   abbrev Settled : ℕ → Type 0
   Settled k = SameRow (chains broader (suc k)) (chains broader k)
+
+  -- as the code sees it: two rows that are the same for n headings
+  pub settled-rows : (k m : ℕ) (row next : List ℕ) → n ≡ m → SameRow row (chains broader k) → RoundOf broader row next
+      → ((x : ℕ) → x < m → getD next x 0 ≡ getD row x 0) → Settled k
+  settled-rows k m row next long same round alike x = by (decLt x n)
+    where
+      by : Dec (x < n) → getD (chains broader (suc k)) x 0 ≡ getD (chains broader k) x 0
+      by (yes low) = sym (round-chains k row next same round x) ∙ alike x (omega arith) ∙ same x
+      by (no past) = chains-past (suc k) x (omega arith) ∙ sym (chains-past k x (omega arith))
+
+  pub rows-differ : (k : ℕ) (row next : List ℕ) → SameRow row (chains broader k) → RoundOf broader row next → (SameRow next row → ⊥) → Settled k → ⊥
+  rows-differ k row next same round differ settled =
+      differ (λ x. round-chains k row next same round x ∙ settled x ∙ sym (same x))
 
   -- each hop up is one less
   falls : (k : ℕ) → Settled k → {j x y : ℕ} → Hops broader j x y → j + getD (chains broader k) y 0 ≤ getD (chains broader k) x 0

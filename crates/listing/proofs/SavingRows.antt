@@ -10,9 +10,9 @@ use lib.ListN.{length, getD, take, drop, set, length-append, take-append-drop, l
 use lib.Seq.{drop-cons, take-suc-set, drop-set-lt, drop-drop, length-take-le}
 use Rattle.listing.specs.Hops.{broaderOf}
 use Rattle.listing.specs.Places.{bytesOf}
-use Rattle.listing.specs.TermRows.{broaderRows, HoldTerms}
+use Rattle.listing.specs.TermRows.{broaderRows}
 use Rattle.listing.specs.Saved.{over}
-use Rattle.listing.specs.Saving.{held}
+use Rattle.listing.specs.Saving.{held, Holding}
 
 -- ---- the terms between two places
 
@@ -38,14 +38,14 @@ held-at from to zero x y z low is = absurd (not-suc-le-zero low)
 held-at from to (suc n) x zero z low is = let e : z ≡ x = omega arith in rw e refl
 held-at from to (suc n) x (suc y) z low is = held-at from to n (suc x) y z (omega arith) (omega arith)
 
-module _ (from to : List ℕ) (n : ℕ) (h : HoldTerms from to n) where
+module _ (from to : List ℕ) (n : ℕ) (h : Holding from to n) where
   rises : (x y : ℕ) → x ≤ y → y ≤ n → getD from x 0 ≤ getD from y 0
   rises x zero le top = let e : x ≡ 0 = omega arith in rw e (omega arith)
   rises x (suc y) le top = by (decLt y x) (rises x y)
     where
       by : Dec (y < x) → (x ≤ y → y ≤ n → getD from x 0 ≤ getD from y 0) → getD from x 0 ≤ getD from (suc y) 0
       by (yes past) more = let e : x ≡ suc y = omega arith in rw e (omega arith)
-      by (no under) more = omega (arith, more (omega arith) (omega arith), h .rising y (omega arith))
+      by (no under) more = omega (arith, more (omega arith) (omega arith), h .terms .rising y (omega arith))
 
   pub broader-at : (x : ℕ) → x < n → broaderOf (held from to n) x ≡ bytesOf to (getD from x 0) (getD from (x + 1) 0)
   broader-at x low = rw add-one (held-at from to n 0 x x low (omega arith))
@@ -54,10 +54,13 @@ module _ (from to : List ℕ) (n : ℕ) (h : HoldTerms from to n) where
   broader-past x high = List·getD-eq-default (held from to n) [] {n = x} (omega (arith, held-length from to n 0))
 
   pub end-low : (x : ℕ) → x < n → getD from (x + 1) 0 ≤ 2736
-  end-low x low = rw add-one (h .filled (suc x) low)
+  end-low x low = rw add-one (h .terms .filled (suc x) low)
+
+  pub end-in : (x : ℕ) → x < n → getD from (x + 1) 0 ≤ length to
+  end-in x low = omega (arith, end-low x low, h .places)
 
   pub term-low : (x i : ℕ) → x < n → i < getD from (x + 1) 0 → getD to i 0 < n
-  term-low x i low less = h .inside i (omega (arith, rises (x + 1) n (omega arith) (omega arith)))
+  term-low x i low less = h .terms .inside i (omega (arith, rises (x + 1) n (omega arith) (omega arith)))
 
 -- ---- over the front of a row, one number after the other
 

@@ -9,8 +9,8 @@ use Rattle.listing.specs.Listing.{Broader}
 use Rattle.listing.specs.Hops.{broaderOf}
 use Rattle.listing.specs.Levels.{longest, levels}
 use Rattle.listing.specs.Circle.{someMarked, returns, lowest, below, wayTo, circle}
-use Rattle.listing.specs.TermRows.{broaderRows, mostHeadings}
-use Rattle.listing.specs.Saved.{Outcome, answered}
+use Rattle.listing.specs.TermRows.{broaderRows, mostHeadings, mostTerms, HoldTerms}
+use Rattle.listing.specs.Saved.{Outcome, over, answered}
 use Rattle.listing.specs.declared.circle.Saved.{Saved}
 use Rattle.listing.specs.declared.circle.Levelled.{Levelled}
 use Rattle.listing.specs.declared.circle.Shortest.{Shortest}
@@ -18,6 +18,11 @@ use Rattle.listing.specs.declared.circle.Shortest.{Shortest}
 -- the broader terms that two rows hold, of n headings
 abbrev pub held : List ℕ → List ℕ → ℕ → Broader
 held from to n = broaderRows from to n 0
+
+-- rows that hold them, and how many places the second has
+pub record Holding (from to : List ℕ) (n : ℕ) : Type 0 where
+  pub terms : HoldTerms from to n
+  pub places : length to ≡ mostTerms
 
 -- the numbers handed back and the row, as the definition has them
 abbrev pub outcomeOf : Saved → List ℕ → Outcome
@@ -29,9 +34,9 @@ outcomeOf r row = record { result = record { number = r .number; line = r .line;
 abbrev pub SameRow : List ℕ → List ℕ → Type 0
 SameRow a b = (x : ℕ) → getD a x 0 ≡ getD b x 0
 
--- whether two rows are the same
-pub record SameAs (a b : List ℕ) (r : Bool) : Type 0 where
-  pub same : r ≡ true → SameRow a b
+-- whether two rows have the same numbers for n headings
+pub record SameAs (a b : List ℕ) (n : ℕ) (r : Bool) : Type 0 where
+  pub same : r ≡ true → (x : ℕ) → x < n → getD a x 0 ≡ getD b x 0
   pub other : r ≡ false → SameRow a b → ⊥
 
 -- no chain is longer than there are headings at most
@@ -48,6 +53,10 @@ pub record LevelledAs (broader : Broader) (l : Levelled) : Type 0 where
   pub row : l .settled ≡ true → SameRow (l .row) (levels broader)
   pub round : l .settled ≡ false → circle broader ≡ none → ⊥
 
+-- the levels of n headings, over the front of a row, whoever holds them
+abbrev pub PutLevels : ℕ → List ℕ → List ℕ → List ℕ → Type 0
+PutLevels n own row after = (levels : List ℕ) → SameRow own levels → length levels ≡ n → after ≡ over levels row
+
 -- ---- the circle
 
 -- the same marks; behind the headings none is set
@@ -57,6 +66,10 @@ SameMarks a b = (x : ℕ) → getD a x false ≡ getD b x false
 -- the headings from which one hop leads to a marked one
 abbrev pub HopOf : Broader → List Bool → List Bool → Type 0
 HopOf broader marks next = (x : ℕ) → getD next x false ≡ someMarked marks (broaderOf broader x)
+
+-- the lowest broader term of `here` that is marked, whoever holds these marks of n headings
+abbrev pub LowestAs : Broader → ℕ → List Bool → ℕ → ℕ → Type 0
+LowestAs broader n marks here r = (own : List Bool) → SameMarks marks own → length own ≡ n → r ≡ lowest own (broaderOf broader here)
 
 -- the lower of two, where the first counts at all
 abbrev pub lowerOf : Bool → ℕ → ℕ → ℕ

@@ -1,14 +1,14 @@
 // "Name the circle before the night": a level for every heading or, in the same row, the shortest circle, the first in number order.
 ghost use mathlib.Core.Path.{_≡_};
-ghost use Prim.Native.Nat.{ℕ, min, max, _≤_, _<_};
-ghost use lib.ListN.{length, getD, take};
+ghost use Prim.Native.Nat.{max, _≤_, _<_};
+ghost use lib.ListN.{length, getD};
 ghost use Rattle.listing.specs.Hops.{broaderOf};
 ghost use Rattle.listing.specs.Levels.{longest};
-ghost use Rattle.listing.specs.Circle.{someMarked, markAt, below, lowest};
+ghost use Rattle.listing.specs.Circle.{someMarked, markAt, below};
 ghost use Rattle.listing.specs.Saved.{over, savedAs};
 ghost use Rattle.listing.specs.TermRows.{HoldTerms};
-ghost use Rattle.listing.specs.Saving.{held, outcomeOf, SameAs, Low, RoundOf, LevelledAs, AnsweredAs};
-ghost use Rattle.listing.specs.Saving.{SameMarks, HopOf, lowerOf, BackIn, ShortestAs, wayFrom};
+ghost use Rattle.listing.specs.Saving.{held, Holding, outcomeOf, SameAs, PutLevels, Low, RoundOf, LevelledAs, AnsweredAs};
+ghost use Rattle.listing.specs.Saving.{SameMarks, HopOf, LowestAs, lowerOf, BackIn, ShortestAs, wayFrom};
 use super::terms::HEADINGS;
 use super::terms::ROWS;
 use super::terms::TERMS;
@@ -52,7 +52,7 @@ fn larger(a: u16, b: u16) -> u16
 
 // One hop from heading x, and the longest chain behind it.
 fn longest_of(from: &[u16; ROWS], to: &[u16; TERMS], n: usize, row: &[u16; HEADINGS], x: usize) -> u16
-    requires { ⌜ (HoldTerms (now from) (now to) n) × (x < n) × (Low (now row)) ⌝ }
+    requires { ⌜ (Holding (now from) (now to) n) × (x < n) × (Low (now row)) ⌝ }
     ensures { λ r. ⌜ r ≡ longest (now (row .entry)) (broaderOf (held (now (from .entry)) (now (to .entry)) n) x) ⌝ }
 {
     let until = place(from, x + 1);
@@ -68,7 +68,7 @@ fn longest_of(from: &[u16; ROWS], to: &[u16; TERMS], n: usize, row: &[u16; HEADI
 
 // The next row of chains: of one hop more.
 fn one_round(from: &[u16; ROWS], to: &[u16; TERMS], n: usize, row: &[u16; HEADINGS]) -> [u16; HEADINGS]
-    requires { ⌜ (HoldTerms (now from) (now to) n) × (Low (now row)) ⌝ }
+    requires { ⌜ (Holding (now from) (now to) n) × (Low (now row)) ⌝ }
     ensures { λ r. ⌜ RoundOf (held (now (from .entry)) (now (to .entry)) n) (now (row .entry)) r ⌝ }
 {
     let mut next = [0u16; HEADINGS];
@@ -80,12 +80,13 @@ fn one_round(from: &[u16; ROWS], to: &[u16; TERMS], n: usize, row: &[u16; HEADIN
     next
 }
 
-// Whether two rows are the same.
-fn same_row(a: &[u16; HEADINGS], b: &[u16; HEADINGS]) -> bool
-    ensures { λ r. ⌜ SameAs (now (a .entry)) (now (b .entry)) r ⌝ }
+// Whether two rows are the same for n headings.
+fn same_row(a: &[u16; HEADINGS], b: &[u16; HEADINGS], n: usize) -> bool
+    requires { ⌜ n ≤ 341 ⌝ }
+    ensures { λ r. ⌜ SameAs (now (a .entry)) (now (b .entry)) n r ⌝ }
 {
     let mut x: usize = 0;
-    while x < HEADINGS {
+    while x < n {
         if a[x] != b[x] {
             return false;
         }
@@ -102,14 +103,14 @@ pub struct Levelled {
 
 // Round by round. Where one changes nothing the chains are the longest; where n + 1 rounds each change something there is a circle.
 fn levels_of(from: &[u16; ROWS], to: &[u16; TERMS], n: usize) -> Levelled
-    requires { ⌜ HoldTerms (now from) (now to) n ⌝ }
+    requires { ⌜ Holding (now from) (now to) n ⌝ }
     ensures { λ r. ⌜ LevelledAs (held (now (from .entry)) (now (to .entry)) n) r ⌝ }
 {
     let mut row = [0u16; HEADINGS];
     let mut k: usize = 0;
     while k <= n {
         let next = one_round(from, to, n, &row);
-        if same_row(&next, &row) {
+        if same_row(&next, &row, n) {
             return Levelled { settled: true, row };
         }
         row = next;
@@ -120,7 +121,7 @@ fn levels_of(from: &[u16; ROWS], to: &[u16; TERMS], n: usize) -> Levelled
 
 // Some broader term of x has its mark set.
 fn some_marked(from: &[u16; ROWS], to: &[u16; TERMS], n: usize, marks: &[bool; HEADINGS], x: usize) -> bool
-    requires { ⌜ (HoldTerms (now from) (now to) n) × (x < n) ⌝ }
+    requires { ⌜ (Holding (now from) (now to) n) × (x < n) ⌝ }
     ensures { λ r. ⌜ r ≡ someMarked (now (marks .entry)) (broaderOf (held (now (from .entry)) (now (to .entry)) n) x) ⌝ }
 {
     let until = place(from, x + 1);
@@ -137,7 +138,7 @@ fn some_marked(from: &[u16; ROWS], to: &[u16; TERMS], n: usize, marks: &[bool; H
 
 // The headings from which one hop leads to a marked one.
 fn one_hop(from: &[u16; ROWS], to: &[u16; TERMS], n: usize, marks: &[bool; HEADINGS]) -> [bool; HEADINGS]
-    requires { ⌜ HoldTerms (now from) (now to) n ⌝ }
+    requires { ⌜ Holding (now from) (now to) n ⌝ }
     ensures { λ r. ⌜ HopOf (held (now (from .entry)) (now (to .entry)) n) (now (marks .entry)) r ⌝ }
 {
     let mut next = [false; HEADINGS];
@@ -161,7 +162,7 @@ fn mark_at(n: usize, x: usize) -> [bool; HEADINGS]
 
 // The headings from which x is reached in exactly k hops.
 fn below_in(from: &[u16; ROWS], to: &[u16; TERMS], n: usize, x: usize, k: usize) -> [bool; HEADINGS]
-    requires { ⌜ (HoldTerms (now from) (now to) n) × (x < n) ⌝ }
+    requires { ⌜ (Holding (now from) (now to) n) × (x < n) ⌝ }
     ensures { λ r. ⌜ SameMarks r (below (held (now (from .entry)) (now (to .entry)) n) x k) ⌝ }
 {
     let mut marks = mark_at(n, x);
@@ -175,7 +176,7 @@ fn below_in(from: &[u16; ROWS], to: &[u16; TERMS], n: usize, x: usize, k: usize)
 
 // In how many hops, fewer than `best`, x is first reached from itself; `best` if in none.
 fn back_in(from: &[u16; ROWS], to: &[u16; TERMS], n: usize, x: usize, best: usize) -> usize
-    requires { ⌜ (HoldTerms (now from) (now to) n) × (x < n) × (1 ≤ best) × (best ≤ 342) ⌝ }
+    requires { ⌜ (Holding (now from) (now to) n) × (x < n) × (1 ≤ best) × (best ≤ 342) ⌝ }
     ensures { λ r. ⌜ BackIn (held (now (from .entry)) (now (to .entry)) n) x best r ⌝ }
 {
     let mut marks = mark_at(n, x);
@@ -198,7 +199,7 @@ pub struct Shortest {
 
 // Heading by heading: only fewer hops than before count, so that the lowest heading stays.
 fn shortest_circle(from: &[u16; ROWS], to: &[u16; TERMS], n: usize) -> Shortest
-    requires { ⌜ HoldTerms (now from) (now to) n ⌝ }
+    requires { ⌜ Holding (now from) (now to) n ⌝ }
     ensures { λ r. ⌜ ShortestAs (held (now (from .entry)) (now (to .entry)) n) r ⌝ }
 {
     let mut hops = n + 1;
@@ -228,8 +229,8 @@ fn lower_of(counts: bool, b: usize, low: usize) -> usize
 
 // The lowest broader term of `here` that is marked; n if none is, or if `here` is itself past all headings.
 fn lowest_of(from: &[u16; ROWS], to: &[u16; TERMS], n: usize, marks: &[bool; HEADINGS], here: usize) -> usize
-    requires { ⌜ HoldTerms (now from) (now to) n ⌝ }
-    ensures { λ r. ⌜ r ≡ min n (lowest (now (marks .entry)) (broaderOf (held (now (from .entry)) (now (to .entry)) n) here)) ⌝ }
+    requires { ⌜ Holding (now from) (now to) n ⌝ }
+    ensures { λ r. ⌜ LowestAs (held (now (from .entry)) (now (to .entry)) n) n (now (marks .entry)) here r ⌝ }
 {
     if n <= here {
         return n;
@@ -247,7 +248,7 @@ fn lowest_of(from: &[u16; ROWS], to: &[u16; TERMS], n: usize, marks: &[bool; HEA
 
 // The circle of so many hops from `first` on, over the front of the row.
 fn put_way(from: &[u16; ROWS], to: &[u16; TERMS], n: usize, first: usize, hops: usize, row: &mut [u16])
-    requires { ⌜ (HoldTerms (now from) (now to) n) × (first < n) × (hops ≤ length (now row)) ⌝ }
+    requires { ⌜ (Holding (now from) (now to) n) × (first < n) × (hops ≤ length (now row)) ⌝ }
     ensures { λ r. ⌜ now (row .exit) ≡ over (wayFrom (held (now (from .entry)) (now (to .entry)) n) first hops first) (now (row .entry)) ⌝ }
 {
     let mut here = first;
@@ -263,7 +264,7 @@ fn put_way(from: &[u16; ROWS], to: &[u16; TERMS], n: usize, first: usize, hops: 
 // The levels of n headings, over the front of the row.
 fn put_levels(own: &[u16; HEADINGS], n: usize, row: &mut [u16])
     requires { ⌜ (n ≤ 341) × (n ≤ length (now row)) ⌝ }
-    ensures { λ r. ⌜ now (row .exit) ≡ over (take n (now (own .entry))) (now (row .entry)) ⌝ }
+    ensures { λ r. ⌜ PutLevels n (now (own .entry)) (now (row .entry)) (now (row .exit)) ⌝ }
 {
     let mut x: usize = 0;
     while x < n {
@@ -273,22 +274,22 @@ fn put_levels(own: &[u16; HEADINGS], n: usize, row: &mut [u16])
 }
 
 // The levels or the circle: of how many headings it is.
-fn answer(from: &[u16; ROWS], to: &[u16; TERMS], n: usize, row: &mut [u16]) -> usize
-    requires { ⌜ (HoldTerms (now from) (now to) n) × (n ≤ length (now row)) ⌝ }
-    ensures { λ r. ⌜ AnsweredAs (held (now (from .entry)) (now (to .entry)) n) r (now (row .entry)) (now (row .exit)) ⌝ }
+fn answer(from: [u16; ROWS], to: [u16; TERMS], n: usize, row: &mut [u16]) -> usize
+    requires { ⌜ (HoldTerms from to n) × (n ≤ length (now row)) ⌝ }
+    ensures { λ r. ⌜ AnsweredAs (held from to n) r (now (row .entry)) (now (row .exit)) ⌝ }
 {
-    let l = levels_of(from, to, n);
+    let l = levels_of(&from, &to, n);
     if l.settled {
         let own = l.row;
         put_levels(&own, n, row);
         return 0;
     }
-    let s = shortest_circle(from, to, n);
+    let s = shortest_circle(&from, &to, n);
     let hops = s.hops;
     if n < hops {
         return 0;
     }
-    put_way(from, to, n, s.first, hops, row);
+    put_way(&from, &to, n, s.first, hops, row);
     hops
 }
 
@@ -314,9 +315,7 @@ pub fn save_listing(s: &[u8], row: &mut [u16]) -> Saved
             circle: 0,
         };
     }
-    let from = t.from;
-    let to = t.to;
-    let c = answer(&from, &to, n, row);
+    let c = answer(t.from, t.to, n, row);
     Saved {
         number: 0,
         line: 0,
