@@ -57,12 +57,34 @@ pub lower-turn : (t : Bool) (b low rest : ℕ) → min low (lowerOf t b rest) �
 lower-turn true b low rest = omega arith
 lower-turn false b low rest = omega arith
 
+pub lower-less : (t : Bool) (b low : ℕ) → lowerOf t b low ≤ low
+lower-less true b low = omega arith
+lower-less false b low = omega arith
+
+pub lowest-within : (marks : List Bool) (bs : List ℕ) → lowest marks bs ≤ length marks
+unfolding lowest
+lowest-within marks [] = omega arith
+lowest-within marks (b ∷ bs) = by (getD marks b false) refl (lowest-within marks bs)
+  where
+    by : (t : Bool) → getD marks b false ≡ t → lowest marks bs ≤ length marks → lowest marks (b ∷ bs) ≤ length marks
+    by true is le = rw (is, lowest) (omega arith)
+    by false is le = rw (is, lowest) le
+
+-- no term
+pub lowest-nobody : (marks : List Bool) (bs : List ℕ) → bs ≡ [] → lowest marks bs ≡ length marks
+unfolding lowest
+lowest-nobody marks bs is = ap (lowest marks) is
+
 -- ---- the same marks
 
 some-same : (a b : List Bool) (bs : List ℕ) → SameMarks a b → someMarked a bs ≡ someMarked b bs
 unfolding someMarked
 some-same a b [] same = refl
 some-same a b (x ∷ bs) same = rw (same x, some-same a b bs same) refl
+
+pub some-nobody : (marks : List Bool) (bs : List ℕ) → bs ≡ [] → someMarked marks bs ≡ false
+unfolding someMarked
+some-nobody marks bs is = ap (someMarked marks) is
 
 -- a mark at x alone, of more headings
 no-mark : (m y : ℕ) → getD (replicate m false) y false ≡ false

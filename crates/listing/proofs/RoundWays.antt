@@ -28,6 +28,10 @@ pub longest-none : (row to : List ℕ) (i e : ℕ) → e ≤ i → longest row (
 unfolding longest
 longest-none row to i e le = ap (longest row) (terms-none to i e le)
 
+pub longest-nobody : (row bs : List ℕ) → bs ≡ [] → longest row bs ≡ 0
+unfolding longest
+longest-nobody row bs is = ap (longest row) is
+
 longest-same : (a b bs : List ℕ) → SameRow a b → longest a bs ≡ longest b bs
 unfolding longest
 longest-same a b [] same = refl

@@ -5,9 +5,9 @@ use Prim.Native.Nat.{ℕ, zero, suc, _+_, _-_, _≤_, _<_}
 use native.Mathlib.Omega.{arith}
 use native.Mathlib.Numerals.{add-one}
 use native.Mathlib.Nat.{not-suc-le-zero}
-use native.Mathlib.Decide.{decLt}
-use lib.ListN.{length, getD, take, drop, set, length-append, take-append-drop, length-set, List·getD-eq-default}
-use lib.Seq.{drop-cons, take-suc-set, drop-set-lt, drop-drop, length-take-le}
+use native.Mathlib.Decide.{decLt, ℕ-discrete}
+use lib.ListN.{length, getD, take, drop, set, replicate, take-append-drop, length-set, length-replicate, drop-of-length-le, List·getD-eq-default}
+use lib.Seq.{drop-cons, take-suc-set, drop-set-lt, drop-drop, length-take-le, getD-set-same, getD-set-other}
 use Rattle.listing.specs.Hops.{broaderOf}
 use Rattle.listing.specs.Places.{bytesOf}
 use Rattle.listing.specs.TermRows.{broaderRows}
@@ -86,3 +86,46 @@ front-all whole before row i low f =
     let is : take i row ≡ whole = sym (append-nil (take i row)) ∙ f .front in
     let long : length whole ≡ i = ap length (sym is) ∙ length-take-le i row low in
     sym (take-append-drop i row) ∙ rw (is, f .behind, long) refl
+
+-- the levels, one after the other
+pub level-more : (levels own before row : List ℕ) (x : ℕ) → x < length levels → x < length row → getD own x 0 ≡ getD levels x 0
+    → Front levels before row x (drop x levels) → Front levels before (set row x (getD own x 0)) (x + 1) (drop (x + 1) levels)
+level-more levels own before row x low there is f =
+    front-more levels before row x (getD own x 0) (drop x levels) (drop (x + 1) levels) there (rw (add-one, is) (drop-cons levels x 0 low)) f
+
+pub level-all : (levels before row : List ℕ) (x : ℕ) → length levels ≤ x → x ≤ length row → Front levels before row x (drop x levels) → row ≡ over levels before
+level-all levels before row x past low f = front-all levels before row x low (rw (drop-of-length-le levels past) at f)
+
+-- ---- a row filled from the front
+
+pub record Filled {A : Type 0} (f : ℕ → A) (none : A) (many : ℕ) (row : List A) (x : ℕ) : Type 0 where
+  pub long : length row ≡ many
+  pub done : (y : ℕ) → y < x → getD row y none ≡ f y
+  pub rest : (y : ℕ) → x ≤ y → getD row y none ≡ none
+
+module _ {A : Type 0} (f : ℕ → A) (none : A) where
+  all-none : (m y : ℕ) → getD (replicate m none) y none ≡ none
+  all-none zero y = refl
+  all-none (suc m) zero = refl
+  all-none (suc m) (suc y) = all-none m y
+
+  pub fill-none : (m : ℕ) → Filled f none m (replicate m none) 0
+  fill-none m = record { long = length-replicate m none; done = λ y low. absurd (not-suc-le-zero low); rest = λ y le. all-none m y }
+
+  pub fill-more : (m : ℕ) (row : List A) (x : ℕ) (a : A) → x < m → a ≡ f x → Filled f none m row x → Filled f none m (set row x a) (x + 1)
+  fill-more m row x a low is h = record {
+    long = length-set row x a ∙ h .long;
+    done = λ y less. at-y y less (ℕ-discrete y x);
+    rest = λ y le. getD-set-other row x y a none (λ e. omega arith) ∙ h .rest y (omega arith);
+  }
+    where
+      at-y : (y : ℕ) → y < x + 1 → Dec (y ≡ x) → getD (set row x a) y none ≡ f y
+      at-y y less (yes e) = rw e (getD-set-same row x a none (omega (arith, h .long)) ∙ is)
+      at-y y less (no differs) = getD-set-other row x y a none differs ∙ h .done y (omega arith)
+
+  pub fill-all : (m : ℕ) (row : List A) (x : ℕ) → Filled f none m row x → ((y : ℕ) → x ≤ y → f y ≡ none) → (y : ℕ) → getD row y none ≡ f y
+  fill-all m row x h past y = by (decLt y x)
+    where
+      by : Dec (y < x) → getD row y none ≡ f y
+      by (yes low) = h .done y low
+      by (no high) = h .rest y (omega arith) ∙ sym (past y (omega arith))

@@ -315,7 +315,9 @@ pub fn save_listing(s: &[u8], row: &mut [u16]) -> Saved
             circle: 0,
         };
     }
-    let c = answer(t.from, t.to, n, row);
+    let from = t.from;
+    let to = t.to;
+    let c = answer(from, to, n, row);
     Saved {
         number: 0,
         line: 0,
