@@ -16,7 +16,7 @@ use Rattle.listing.specs.Circle.{someMarked, markAt, below, returns, fir
 use Rattle.listing.specs.Places.{bytesOf}
 use Rattle.listing.specs.Saving.{SameMarks, HopOf, LowestAs, lowerOf, wayFrom}
 use Rattle.listing.proofs.FirstCircle.{below-more}
-use Rattle.listing.proofs.SavingRows.{terms-more, terms-none}
+use Rattle.listing.proofs.SavingRows.{terms-more, terms-none, all-none}
 
 -- ---- some marked, term by term
 
@@ -87,11 +87,6 @@ unfolding someMarked
 some-nobody marks bs is = ap (someMarked marks) is
 
 -- a mark at x alone, of more headings
-no-mark : (m y : ℕ) → getD (replicate m false) y false ≡ false
-no-mark zero y = refl
-no-mark (suc m) zero = refl
-no-mark (suc m) (suc y) = no-mark m y
-
 pub mark-same : (m n x : ℕ) → x < n → n ≤ m → SameMarks (set (replicate m false) x true) (markAt n x)
 unfolding markAt
 mark-same m n x low le y = by (ℕ-discrete y x)
@@ -102,8 +97,8 @@ mark-same m n x low le y = by (ℕ-discrete y x)
         let short : x < length (replicate n false) = simp length-replicate low in
         rw is (getD-set-same (replicate m false) x true false long ∙ sym (getD-set-same (replicate n false) x true false short))
     by (no differs) =
-        getD-set-other (replicate m false) x y true false differs ∙ no-mark m y
-        ∙ sym (getD-set-other (replicate n false) x y true false differs ∙ no-mark n y)
+        getD-set-other (replicate m false) x y true false differs ∙ all-none false m y
+        ∙ sym (getD-set-other (replicate n false) x y true false differs ∙ all-none false n y)
 
 module _ (broader : Broader) where
   abbrev n : ℕ

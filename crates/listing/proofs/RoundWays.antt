@@ -5,17 +5,19 @@ use mathlib.Core.List.{List, [], _∷_}
 use Prim.Native.Nat.{ℕ, zero, suc, max, _+_, _-_, _≤_, _<_}
 use native.Mathlib.Omega.{arith}
 use native.Mathlib.Decide.{decLt}
-use lib.ListN.{length, getD, List·getD-eq-default}
+use native.Mathlib.Numerals.{add-one}
+use lib.ListN.{length, getD, replicate, List·getD-eq-default}
 use Rattle.listing.specs.Listing.{Broader}
 use Rattle.listing.specs.Hops.{broaderOf, Hops, here, hop, HasCircle}
 use Rattle.listing.specs.Levels.{longest, chains, levels}
 use Rattle.listing.specs.Circle.{circle}
 use Rattle.listing.specs.Places.{bytesOf}
-use Rattle.listing.specs.Saving.{SameRow, RoundOf}
+use Rattle.listing.specs.TermRows.{mostHeadings}
+use Rattle.listing.specs.Saving.{SameRow, RoundOf, Low}
 use Rattle.listing.proofs.Ways.{chain-short}
 use Rattle.listing.proofs.Levels.{longest-over, chains-none, chains-more, chain-there, chain-most}
 use Rattle.listing.proofs.FirstCircle.{told}
-use Rattle.listing.proofs.SavingRows.{terms-more, terms-none}
+use Rattle.listing.proofs.SavingRows.{terms-more, terms-none, all-none}
 
 -- ---- the longest, term by term
 
@@ -116,3 +118,33 @@ module _ (broader : Broader) where
     where
       nobody : HasCircle broader → ⊥
       nobody has = let (c, named) = told broader .reported .0 has in let z : _≡_ {A = ℕ} 0 1 = cc in omega arith
+
+  -- ---- round by round
+
+  -- the chains after k rounds, each of which changed something
+  pub record Rounded (k : ℕ) (row : List ℕ) : Type 0 where
+    pub same : SameRow row (chains broader k)
+    pub changed : (j : ℕ) → k ≡ suc j → Settled j → ⊥
+
+  pub rounded-none : (m : ℕ) → Rounded 0 (replicate m 0)
+  rounded-none m = record { same = λ x. all-none 0 m x ∙ sym (chains-none broader x); changed = λ j is. absurd (omega arith) }
+
+  pub rounded-low : (k : ℕ) (row : List ℕ) → Rounded k row → k ≤ mostHeadings → Low row
+  rounded-low k row r le x = omega (arith, r .same x, chain-low k x)
+
+  pub rounded-more : (k : ℕ) (row next : List ℕ) → Rounded k row → RoundOf broader row next → (SameRow next row → ⊥) → Rounded (k + 1) next
+  rounded-more k row next r round differ = record {
+    same = rw add-one (round-chains k row next (r .same) round);
+    changed = λ j is settled. let e : j ≡ k = omega arith in rows-differ k row next (r .same) round differ (rw e at settled);
+  }
+
+  module _ (k m : ℕ) (row next : List ℕ) (long : n ≡ m) (r : Rounded k row) (round : RoundOf broader row next)
+    (alike : (x : ℕ) → x < m → getD next x 0 ≡ getD row x 0) where
+    pub rounded-clear : circle broader ≡ none
+    rounded-clear = settled-clear k (settled-rows k m row next long (r .same) round alike)
+
+    pub rounded-levels : k ≤ n → SameRow row (levels broader)
+    rounded-levels le x = r .same x ∙ settled-levels k le (settled-rows k m row next long (r .same) round alike) x
+
+  pub rounded-round : (k : ℕ) (row : List ℕ) → k ≡ n + 1 → Rounded k row → circle broader ≡ none → ⊥
+  rounded-round k row is r clear = r .changed n (omega arith) (clear-settled clear)

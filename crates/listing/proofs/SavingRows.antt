@@ -103,14 +103,14 @@ pub record Filled {A : Type 0} (f : ℕ → A) (none : A) (many : ℕ) (row : Li
   pub done : (y : ℕ) → y < x → getD row y none ≡ f y
   pub rest : (y : ℕ) → x ≤ y → getD row y none ≡ none
 
-module _ {A : Type 0} (f : ℕ → A) (none : A) where
-  all-none : (m y : ℕ) → getD (replicate m none) y none ≡ none
-  all-none zero y = refl
-  all-none (suc m) zero = refl
-  all-none (suc m) (suc y) = all-none m y
+pub all-none : {A : Type 0} (none : A) (m y : ℕ) → getD (replicate m none) y none ≡ none
+all-none none zero y = refl
+all-none none (suc m) zero = refl
+all-none none (suc m) (suc y) = all-none none m y
 
+module _ {A : Type 0} (f : ℕ → A) (none : A) where
   pub fill-none : (m : ℕ) → Filled f none m (replicate m none) 0
-  fill-none m = record { long = length-replicate m none; done = λ y low. absurd (not-suc-le-zero low); rest = λ y le. all-none m y }
+  fill-none m = record { long = length-replicate m none; done = λ y low. absurd (not-suc-le-zero low); rest = λ y le. all-none none m y }
 
   pub fill-more : (m : ℕ) (row : List A) (x : ℕ) (a : A) → x < m → a ≡ f x → Filled f none m row x → Filled f none m (set row x a) (x + 1)
   fill-more m row x a low is h = record {
