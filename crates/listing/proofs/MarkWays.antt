@@ -109,9 +109,9 @@ module _ (broader : Broader) where
   below-long x zero = length-set (replicate n false) x true ∙ length-replicate n false
   below-long x (suc k) = length-map broader (someMarked (below broader x k))
 
-  pub below-none : (x : ℕ) (marks : List Bool) → SameMarks marks (markAt n x) → SameMarks marks (below broader x 0)
+  pub below-none : (x m : ℕ) (marks : List Bool) → n ≡ m → SameMarks marks (markAt m x) → SameMarks marks (below broader x 0)
   unfolding below
-  below-none x marks same = same
+  below-none x m marks long same y = same y ∙ ap (λ (j : ℕ). getD (markAt j x) y false) (sym long)
 
   pub hop-below : (x k : ℕ) (marks next : List Bool) → SameMarks marks (below broader x k) → HopOf broader marks next → SameMarks next (below broader x (suc k))
   hop-below x k marks next same hop y = hop y ∙ some-same marks (below broader x k) (broaderOf broader y) same ∙ sym (below-more broader x k y)
@@ -119,6 +119,37 @@ module _ (broader : Broader) where
   pub returns-is : (x k : ℕ) (marks : List Bool) (t : Bool) → SameMarks marks (below broader x k) → getD marks x false ≡ t → returns broader k x ≡ t
   unfolding returns
   returns-is x k marks t same is = sym (same x) ∙ is
+
+  -- ---- when a heading is reached from itself
+
+  -- the marks of one hop less, and x was not reached from itself so far
+  pub record Backed (x k : ℕ) (marks : List Bool) : Type 0 where
+    pub any : 1 ≤ k
+    pub same : SameMarks marks (below broader x (k - 1))
+    pub before : (j : ℕ) → 1 ≤ j → j < k → returns broader j x ≡ false
+
+  pub backed-none : (x : ℕ) (marks : List Bool) → SameMarks marks (below broader x 0) → Backed x 1 marks
+  backed-none x marks same = record { any = omega arith; same = same; before = λ j any low. absurd (omega arith) }
+
+  module _ (x k : ℕ) (marks next : List Bool) (b : Backed x k marks) (hop : HopOf broader marks next) where
+    backed-hop : SameMarks next (below broader x k)
+    backed-hop =
+        let e : suc (k - 1) ≡ k = omega (arith, b .any) in
+        rw e at (hop-below x (k - 1) marks next (b .same) hop)
+
+    pub backed-is : getD next x false ≡ true → returns broader k x ≡ true
+    backed-is is = returns-is x k next true backed-hop is
+
+    pub backed-more : getD next x false ≡ false → Backed x (k + 1) next
+    backed-more is = record {
+      any = omega arith;
+      same = let e : k + 1 - 1 ≡ k = omega arith in rw e backed-hop;
+      before = λ j any low. by j any low (ℕ-discrete j k);
+    }
+      where
+        by : (j : ℕ) → 1 ≤ j → j < k + 1 → Dec (j ≡ k) → returns broader j x ≡ false
+        by j any low (yes e) = rw e (returns-is x k next false backed-hop is)
+        by j any low (no differs) = b .before j any (omega arith)
 
   -- ---- the search
 
