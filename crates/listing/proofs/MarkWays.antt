@@ -14,7 +14,7 @@ use Rattle.listing.specs.Listing.{Broader}
 use Rattle.listing.specs.Hops.{broaderOf}
 use Rattle.listing.specs.Circle.{someMarked, markAt, below, returns, firstReturn, lowest, wayTo, shortestFrom, circle}
 use Rattle.listing.specs.Places.{bytesOf}
-use Rattle.listing.specs.Saving.{SameMarks, HopOf, LowestAs, lowerOf, wayFrom}
+use Rattle.listing.specs.Saving.{SameMarks, HopOf, LowestAs, lowerOf, BackIn, wayFrom}
 use Rattle.listing.proofs.FirstCircle.{below-more}
 use Rattle.listing.proofs.SavingRows.{terms-more, terms-none, all-none}
 
@@ -210,8 +210,8 @@ module _ (broader : Broader) where
   unfolding circle
   sought-missing hops first s le = shortest-none hops (s .nobody) n 1 (omega arith) (omega arith)
 
-  pub sought-none : Sought 0 (n + 1) 0
-  sought-none = record {
+  pub sought-none : (hops : ℕ) → hops ≡ n + 1 → Sought 0 hops 0
+  sought-none hops is = record {
     any = omega arith;
     within = omega arith;
     nobody = λ y k less. absurd (not-suc-le-zero less);
@@ -219,6 +219,35 @@ module _ (broader : Broader) where
     is = λ le. absurd (omega arith);
     lower = λ le. absurd (omega arith);
   }
+
+  module _ (x hops first k : ℕ) (s : Sought x hops first) (b : BackIn broader x hops k) where
+    -- one heading more that returns in no fewer hops
+    unreturned : (y j : ℕ) → y < x + 1 → 1 ≤ j → j < k → returns broader j y ≡ false
+    unreturned y j low any less = by (ℕ-discrete y x)
+      where
+        by : Dec (y ≡ x) → returns broader j y ≡ false
+        by (yes e) = rw e (b .before j any less)
+        by (no differs) = s .nobody y j (omega arith) any (omega (arith, b .within))
+
+    pub sought-same : hops ≤ k → Sought (x + 1) hops first
+    sought-same le = record {
+      any = s .any;
+      within = s .within;
+      nobody = λ y j low any less. unreturned y j low any (omega arith);
+      there = s .there;
+      is = s .is;
+      lower = s .lower;
+    }
+
+    pub sought-shorter : k < hops → x < n → Sought (x + 1) k x
+    sought-shorter less low = record {
+      any = b .any;
+      within = omega (arith, s .within);
+      nobody = unreturned;
+      there = λ le. low;
+      is = λ le. b .back less;
+      lower = λ le y lower. s .nobody y k lower (b .any) less;
+    }
 
   -- ---- the way round
 
@@ -232,11 +261,18 @@ module _ (broader : Broader) where
   way-on x zero here = refl
   way-on x (suc left) here = refl
 
-  -- as the code has it
-  pub way-more : (x left here next : ℕ) (marks : List Bool) → SameMarks marks (below broader x left) → LowestAs broader n marks here next
-      → wayFrom broader x (left + 1) here ≡ here ∷ wayFrom broader x left next
-  way-more x left here next marks same low =
-      rw (add-one, low (below broader x left) same (below-long x left)) (way-on x left here)
+  -- as the code has it: m headings, and the lowest of the marks
+  module _ (x left here next m : ℕ) (marks : List Bool) (long : n ≡ m) (same : SameMarks marks (below broader x left)) (low : LowestAs broader m marks here next) where
+    next-is : next ≡ lowest (below broader x left) (broaderOf broader here)
+    next-is = low (below broader x left) same (below-long x left ∙ long)
+
+    pub next-low : next ≤ m
+    next-low = omega (arith, next-is, lowest-within (below broader x left) (broaderOf broader here), below-long x left)
+
+    pub way-more : (before after : ℕ) → before ≡ left + 1 → after ≡ left → wayFrom broader x before here ≡ here ∷ wayFrom broader x after next
+    way-more before after is-before is-after =
+        let e : before ≡ suc left = omega arith in
+        rw (e, is-after, next-is) (way-on x left here)
 
   pub way-done : (x here : ℕ) → wayFrom broader x 0 here ≡ []
   unfolding wayFrom
