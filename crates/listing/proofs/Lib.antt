@@ -14,3 +14,4 @@ pub mod NumberWays
 pub mod SavingRows
 pub mod RoundWays
 pub mod MarkWays
+pub mod SavingWays

@@ -261,6 +261,11 @@ module _ (broader : Broader) where
   way-on x zero here = refl
   way-on x (suc left) here = refl
 
+  pub way-length : (x left here : ℕ) → length (wayFrom broader x left here) ≡ left
+  unfolding wayFrom
+  way-length x zero here = refl
+  way-length x (suc left) here = ap length (way-on x left here) ∙ ap suc (way-length x left (lowest (below broader x left) (broaderOf broader here)))
+
   -- as the code has it: m headings, and the lowest of the marks
   module _ (x left here next m : ℕ) (marks : List Bool) (long : n ≡ m) (same : SameMarks marks (below broader x left)) (low : LowestAs broader m marks here next) where
     next-is : next ≡ lowest (below broader x left) (broaderOf broader here)
