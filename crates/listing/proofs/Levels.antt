@@ -28,7 +28,7 @@ longest-is row (b ∷ bs) = by (decLt (longest row bs) (suc (getD row b 0))) (lo
     by (no high) (inr (c, there, is)) = inr (c, later there, omega arith)
 
 -- and no less than any
-longest-over : (row : List ℕ) {bs : List ℕ} {b : ℕ} → In b bs → suc (getD row b 0) ≤ longest row bs
+pub longest-over : (row : List ℕ) {bs : List ℕ} {b : ℕ} → In b bs → suc (getD row b 0) ≤ longest row bs
 unfolding longest
 longest-over row first = omega arith
 longest-over row (later i) = omega (arith, longest-over row i)
@@ -36,7 +36,7 @@ longest-over row (later i) = omega (arith, longest-over row i)
 module _ (broader : Broader) where
   -- ---- chains of so many hops
 
-  chains-none : (x : ℕ) → getD (chains broader 0) x 0 ≡ 0
+  pub chains-none : (x : ℕ) → getD (chains broader 0) x 0 ≡ 0
   unfolding chains
   chains-none x = by (decLt x (length broader))
     where
@@ -44,12 +44,12 @@ module _ (broader : Broader) where
       by (yes low) = getD-replicate (length broader) x 0 0 low
       by (no high) = List·getD-eq-default (replicate (length broader) 0) 0 {n = x} (omega (arith, length-replicate {A = ℕ} (length broader) 0))
 
-  chains-more : (k x : ℕ) → getD (chains broader (suc k)) x 0 ≡ longest (chains broader k) (broaderOf broader x)
+  pub chains-more : (k x : ℕ) → getD (chains broader (suc k)) x 0 ≡ longest (chains broader k) (broaderOf broader x)
   unfolding chains longest
   chains-more k x = List·getD-map (longest (chains broader k)) broader x []
 
   -- there is a chain that long
-  chain-there : (k x : ℕ) → (y : ℕ) × Hops broader (getD (chains broader k) x 0) x y
+  pub chain-there : (k x : ℕ) → (y : ℕ) × Hops broader (getD (chains broader k) x 0) x y
   chain-there zero x = rw (chains-none x) (x, here)
   chain-there (suc k) x = rw (chains-more k x) (by (longest-is (chains broader k) (broaderOf broader x)) (chain-there k))
     where
@@ -61,7 +61,7 @@ module _ (broader : Broader) where
       by (inr (b, there, is)) rest = let (y, hops) = rest b in rw is (y, hop there hops)
 
   -- and none of so few hops is longer
-  chain-most : (k j : ℕ) {x y : ℕ} → Hops broader j x y → j ≤ k → j ≤ getD (chains broader k) x 0
+  pub chain-most : (k j : ℕ) {x y : ℕ} → Hops broader j x y → j ≤ k → j ≤ getD (chains broader k) x 0
   chain-most k zero hops le = omega arith
   chain-most zero (suc j) hops le = absurd (not-suc-le-zero le)
   chain-most (suc k) (suc j) {x} (hop {y = b} there hops) le =

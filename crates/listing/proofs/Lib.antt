@@ -6,7 +6,7 @@ pub mod Refused
 pub mod Pigeons
 pub mod Ways
 pub mod Levels
-pub mod Circle
+pub mod FirstCircle
 pub mod LineWays
 pub mod NameWays
 pub mod TagWays
@@ -24,3 +24,7 @@ pub mod MirrorWays
 pub mod JudgeParts
 pub mod MirrorParts
 pub mod JudgeWhole
+pub mod SavingRows
+pub mod RoundWays
+pub mod MarkWays
+pub mod SavingWays

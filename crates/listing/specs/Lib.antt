@@ -13,4 +13,5 @@ pub mod Saved
 pub mod TermRows
 pub mod Gathering
 pub mod Judging
+pub mod Saving
 pub mod Cases

@@ -118,7 +118,7 @@ lowest-one marks bs {b} i is = by (lowest-past marks bs)
 module _ (broader : Broader) where
   -- ---- marks and hops
 
-  below-more : (x k y : ℕ) → getD (below broader x (suc k)) y false ≡ someMarked (below broader x k) (broaderOf broader y)
+  pub below-more : (x k y : ℕ) → getD (below broader x (suc k)) y false ≡ someMarked (below broader x k) (broaderOf broader y)
   unfolding below someMarked
   below-more x k y = List·getD-map (someMarked (below broader x k)) broader y []
 
