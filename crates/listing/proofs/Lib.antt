@@ -11,3 +11,6 @@ pub mod LineWays
 pub mod NameWays
 pub mod TagWays
 pub mod NumberWays
+pub mod PutWays
+pub mod RuleWays
+pub mod WriteWays

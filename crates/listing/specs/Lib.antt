@@ -11,4 +11,5 @@ pub mod Circle
 pub mod Told
 pub mod Saved
 pub mod TermRows
+pub mod Putting
 pub mod Cases

@@ -2,3 +2,4 @@
 mod judge;
 mod lines;
 mod terms;
+pub mod write;
