@@ -3,7 +3,6 @@ use mathlib.Core.List.{List, [], _∷_, _++_}
 use mathlib.Core.Path.{_≡_, refl, sym, ap, _∙_}
 use Prim.Native.Nat.{ℕ, zero, suc, _+_, _-_, _/_, _%_, _<_, _≤_}
 use native.Mathlib.Nat.{add-zero, zero-add}
-use native.Mathlib.Numerals.{add-one}
 use native.Mathlib.Omega.{arith}
 use lib.ListN.{length, set, drop, length-append}
 use lib.Seq.{sets, sets-eq, length-sets}
@@ -20,7 +19,7 @@ sets-behind l p (x ∷ a) b =
 pub put-then : {old mid new xs ys : List ℕ} {at p q : ℕ} → Put old at xs p mid → Put mid p ys q new → Put old at (xs ++ ys) q new
 put-then {old} {mid} {new} {xs} {ys} {at} {p} {q} first second = record {
   behind = omega (arith, first .behind, second .behind, length-append xs ys);
-  room = second .room ∙ rw (first .room, first .behind) (sym (sets-behind old at xs ys))
+  room = second .room ∙ rw (first .room, first .behind) (sym (sets-behind old at xs ys));
 }
 
 -- the room is as long as it was
@@ -44,14 +43,14 @@ module _ {old : List ℕ} {at : ℕ} {all now : List ℕ} {p : ℕ} where
   pub left-put : {left xs rest new : List ℕ} {q : ℕ} → left ≡ xs ++ rest → Left old at all now p left → Put now p xs q new → Left old at all new q rest
   left-put {left} {xs} {rest} {new} {q} split before put = record {
     behind = omega (arith, before .behind, put .behind, ap length split ∙ length-append xs rest);
-    room = rw (put .room, put .behind) (sym (sets-behind now p xs rest)) ∙ rw split at (before .room)
+    room = rw (put .room, put .behind) (sym (sets-behind now p xs rest)) ∙ rw split at (before .room);
   }
 
   -- the last are put now
   pub left-last : {left xs new : List ℕ} {q : ℕ} → left ≡ xs → Left old at all now p left → Put now p xs q new → Put old at all q new
   left-last {left} {xs} {new} {q} is before put = record {
     behind = omega (arith, before .behind, put .behind, ap length is);
-    room = put .room ∙ rw is at (before .room)
+    room = put .room ∙ rw is at (before .room);
   }
 
   -- the room is as long as it was

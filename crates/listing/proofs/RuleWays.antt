@@ -5,13 +5,13 @@ use mathlib.Core.Path.{_≡_, refl, sym, ap, _∙_}
 use Prim.Native.Nat.{ℕ, zero, suc, _+_, _*_, _-_, _<_, _≤_}
 use native.Mathlib.Numerals.{add-one}
 use native.Mathlib.Omega.{arith}
-use lib.ListN.{length, getD, take, drop, length-append, length-take, length-drop}
+use lib.ListN.{length, getD, length-append, length-take, length-drop}
 use lib.Seq.{drop-cons}
 use Rattle.reading.specs.Bytes.{twoBytes}
 use Rattle.listing.specs.Terms.{nested, firstOf, secondOf}
 use Rattle.listing.specs.Laid.{exprLaid, rowLaid, treeLaid, lengthFirst}
 use Rattle.listing.specs.Places.{bytesOf}
-use Rattle.listing.specs.TermRows.{mostHeadings, mostTerms}
+use Rattle.listing.specs.TermRows.{mostTerms}
 use Rattle.listing.specs.Putting.{Put, termLaid, ruleOf, nestLaid, nextLaid, sizeOf, ruleLaid}
 use Rattle.listing.proofs.PutWays.{put-then}
 

@@ -1,12 +1,11 @@
 -- The book of a listing as the code puts it: the rows that hold its broader terms, its symbols, its rules, and what is handed back.
 use mathlib.Core.Bool.{Bool, true, false, _||_}
-use mathlib.Core.List.{List, [], _∷_, _++_, map, append-assoc}
+use mathlib.Core.List.{List, [], _∷_, _++_, append-assoc}
 use mathlib.Core.Path.{_≡_, refl, sym, ap, _∙_}
 use Prim.Native.Nat.{ℕ, zero, suc, _+_, _*_, _-_, _<_, _≤_}
-use native.Mathlib.Nat.{sub-zero}
 use native.Mathlib.Numerals.{add-one}
 use native.Mathlib.Omega.{arith}
-use lib.ListN.{length, getD, take, drop, replicate, length-append, length-map}
+use lib.ListN.{length, getD, drop, replicate, length-append, length-map}
 use borrow.Author.Tests.{lt-ltb, le-ltb, ltb-false}
 use lib.Dec.{ltb}
 use Rattle.limits.specs.Sizes.{mostBookBytes, mostSymbols}
@@ -16,7 +15,7 @@ use Rattle.expressions.specs.Expressions.{Expr}
 use Rattle.symbols.specs.Symbols.{Symbols}
 use Rattle.book.specs.Trees.{Tree, Trees}
 use Rattle.listing.specs.Listing.{Broader, broaderIn}
-use Rattle.listing.specs.Terms.{term, operation, symbolsFor, nested, firstOf, secondOf, rulesBefore, exemptBefore, firstRules, secondRules, treesFor, rulesFor}
+use Rattle.listing.specs.Terms.{term, operation, symbolsFor, rulesBefore, exemptBefore, firstRules, secondRules, treesFor, rulesFor}
 use Rattle.listing.specs.Laid.{symbolLaid, symbolsLaid, treeLaid, lengthFirst, treesLaid, laid}
 use Rattle.listing.specs.Write.{passes, someOver, written, bookFrom, refusing}
 use Rattle.listing.specs.Places.{bytesOf}
@@ -65,7 +64,7 @@ module _ (from to : List ℕ) where
       few = hold .few;
       rising = rw add-one (hold .rising x less);
       filled = rw add-one (hold .filled (suc x) (omega arith));
-      inside = λ i there. hold .inside i (omega (arith, there, ap (λ (k : ℕ). getD from k 0) (add-one x), rises (n - suc x) (suc x) (omega arith)))
+      inside = λ i there. hold .inside i (omega (arith, there, ap (λ (k : ℕ). getD from k 0) (add-one x), rises (n - suc x) (suc x) (omega arith)));
     }
 
 -- ---- the symbols
@@ -105,8 +104,8 @@ module _ (n : ℕ) where
   unfolding twoBytes
   front-long = omega (arith, ap length front-laid, kinds-many)
 
-  pub front-put : {old one two three new : List ℕ} {p q r s : ℕ} → Put old 0 (1 ∷ []) p one → Put one p (twoBytes (9 * n)) q two → Put two q (kindsLaid n 0) r three
-      → Put three r (kindsLaid (n + n) 1) s new → Put old 0 (frontLaid n) s new
+  pub front-put : {old one two three new : List ℕ} {p q r s : ℕ} → Put old 0 (1 ∷ []) p one → Put one p (twoBytes (9 * n)) q two
+      → Put two q (kindsLaid n 0) r three → Put three r (kindsLaid (n + n) 1) s new → Put old 0 (frontLaid n) s new
   front-put version long terms operations = rw front-laid (put-then version (put-then long (put-then terms operations)))
 
 -- ---- the rules
@@ -191,7 +190,8 @@ module _ (from to : List ℕ) (n : ℕ) where
       omega (arith, ap length book-is ∙ length-append (frontLaid n) (twoBytes (length (partLaid n rows)) ++ partLaid n rows), front-long n)
 
   pub book-put : {old mid new : List ℕ} {p q size : ℕ} → size ≡ length (partLaid n rows) → length (laid (rulesFor rows)) ≤ length old
-      → Put old 0 (frontLaid n) p mid → Put mid p (twoBytes size ++ partLaid n rows) q new → new ≡ laid (rulesFor rows) ++ drop (length (laid (rulesFor rows))) old
+      → Put old 0 (frontLaid n) p mid → Put mid p (twoBytes size ++ partLaid n rows) q new
+      → new ≡ laid (rulesFor rows) ++ drop (length (laid (rulesFor rows))) old
   book-put {old} {mid} {new} {p} {q} is fits front trees =
       let all : Put old 0 (laid (rulesFor rows)) q new = rw book-is (put-then front (rw is at trees)) in
       put-whole fits all
@@ -199,14 +199,15 @@ module _ (from to : List ℕ) (n : ℕ) where
 -- ---- what is handed back
 
 or-right : (a b : Bool) → (a || b) ≡ false → b ≡ false
-unfolding _||_
 or-right true b is = cc
 or-right false b is = is
 
 -- what is told of a listing that is of the form, by whether its book passes a size
 abbrev ToldBy : Terms → Broader → Bool → Type 0
-ToldBy t broader true = (t .number ≡ 43) × (t .line ≡ 0)
-ToldBy t broader false = Fitting t broader
+ToldBy t broader over = elim over [
+  | true ↦ (t .number ≡ 43) × (t .line ≡ 0)
+  | false ↦ Fitting t broader
+]
 
 module _ (s room : List ℕ) (t : Terms) where
   -- the terms are told
@@ -225,6 +226,7 @@ module _ (s room : List ℕ) (t : Terms) where
           → ToldBy t broader over → refusing (t .number) (t .line) room ≡ bookFrom s room
       fits broader n read true over told = rw (bookFrom, read, written, over, told .0, told .1) refl
       fits broader n read false over told = absurd (some (told .none))
+
       by : (r : Reading Broader) → broaderIn s ≡ r → TermsAs t r → refusing (t .number) (t .line) room ≡ bookFrom s room
       by (refusal c line) read told = rw (bookFrom, read, told .0, told .1) refl
       by (got broader n) read told = fits broader n read (passes broader) refl told
@@ -236,6 +238,7 @@ module _ (s room : List ℕ) (t : Terms) where
           → ToldBy t broader over → Told
       fits broader n read true over told = absurd (omega (arith, told .0))
       fits broader n read false over told = record { broader = broader; lines = n; read = read; passes-not = over; fitting = told }
+
       by : (r : Reading Broader) → broaderIn s ≡ r → TermsAs t r → Told
       by (refusal c line) read told = absurd (omega (arith, told .0, number-is (numbered s) read .0))
       by (got broader n) read told = fits broader n read (passes broader) refl told
@@ -255,7 +258,12 @@ module _ (s room : List ℕ) (t : Terms) where
 
     pub told-small : t .size ≤ mostBookBytes
     unfolding passes
-    told-small = omega (arith, told .fitting .size, ltb-false mostBookBytes (length (laid (rulesFor (told .broader)))) (or-right _ _ (told .passes-not)))
+    told-small =
+        let b = told .broader in
+        let n = length b in
+        let others = ltb mostSymbols (n + (n + n)) || someOver (firstRules b ++ secondRules n b) in
+        let size = length (laid (rulesFor b)) in
+        omega (arith, told .fitting .size, ltb-false mostBookBytes size (or-right others (ltb mostBookBytes size) (told .passes-not)))
 
     pub room-way : length room < t .size → refusing 43 0 room ≡ bookFrom s room
     unfolding bookFrom written

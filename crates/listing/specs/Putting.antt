@@ -10,10 +10,10 @@ use Rattle.reading.specs.Bytes.{twoBytes}
 use Rattle.expressions.specs.Expressions.{Expr}
 use Rattle.book.specs.Trees.{Tree}
 use Rattle.listing.specs.Listing.{Broader}
-use Rattle.listing.specs.Terms.{nested, firstOf, secondOf, symbolsFor}
-use Rattle.listing.specs.Laid.{exprLaid, treeLaid, symbolsLaid, lengthFirst}
+use Rattle.listing.specs.Terms.{nested, firstOf, secondOf, symbolsFor, rulesFor}
+use Rattle.listing.specs.Laid.{exprLaid, treeLaid, symbolsLaid, lengthFirst, laid}
 use Rattle.listing.specs.Write.{Outcome}
-use Rattle.listing.specs.TermRows.{mostHeadings, mostTerms, HoldTerms}
+use Rattle.listing.specs.TermRows.{mostHeadings, mostTerms, broaderRows, HoldTerms}
 use Rattle.listing.specs.declared.write.Written.{Written}
 
 -- ---- putting
@@ -89,6 +89,13 @@ pub record HoldRow (to : List ℕ) (n a b : ℕ) : Type 0 where
 pub record HoldRows (from to : List ℕ) (n : ℕ) : Type 0 where
   pub whole : length to ≡ mostTerms
   pub terms : HoldTerms from to n
+
+-- the tree part and the book of the broader terms that two rows hold
+abbrev pub partOf : List ℕ → List ℕ → ℕ → List ℕ
+partOf from to n = partLaid n (broaderRows from to n 0)
+
+abbrev pub bookOf : List ℕ → List ℕ → ℕ → List ℕ
+bookOf from to n = laid (rulesFor (broaderRows from to n 0))
 
 -- ---- the result
 

@@ -5,16 +5,14 @@ ghost use Prim.Native.Nat.{_+_, _<_, _≤_};
 ghost use lib.ListN.{length, drop, set};
 ghost use Rattle.limits.specs.Sizes.{mostBookBytes};
 ghost use Rattle.reading.specs.Bytes.{twoBytes};
-ghost use Rattle.listing.specs.Terms.{rulesFor};
-ghost use Rattle.listing.specs.Laid.{laid};
 ghost use Rattle.listing.specs.Write.{bookFrom};
 ghost use Rattle.listing.specs.Places.{bytesOf};
 ghost use Rattle.listing.specs.TermRows.{broaderRows, mostHeadings, mostTerms};
-ghost use Rattle.listing.specs.Putting.{Fits, Put, HoldRow, HoldRows, termLaid, kindLaid, kindsLaid, frontLaid, sizeOf, nextLaid, nestLaid, ruleLaid, rulesLaid, partLaid};
-ghost use Rattle.listing.specs.Putting.{outcomeOf};
-use super::terms::terms_of;
+ghost use Rattle.listing.specs.Putting.{Fits, Put, HoldRow, HoldRows, outcomeOf};
+ghost use Rattle.listing.specs.Putting.{termLaid, kindLaid, kindsLaid, frontLaid, sizeOf, nextLaid, nestLaid, ruleLaid, rulesLaid, partOf, bookOf};
 use super::terms::ROWS;
 use super::terms::TERMS;
+use super::terms::terms_of;
 
 // What is handed back: 0 or the number of the refusal, the line concerned, and how many bytes were written.
 pub struct Written {
@@ -221,8 +219,8 @@ fn put_trees(
     n: usize,
     size: usize,
 ) -> usize
-    requires { ⌜ HoldRows (now from) (now to) n × (size ≡ length (partLaid n (broaderRows (now from) (now to) n 0))) × (at + 2 + size ≤ mostBookBytes) ⌝ }
-    ensures { λ r. ⌜ Put (now (room .entry)) at (twoBytes size ++ partLaid n (broaderRows (now (from .entry)) (now (to .entry)) n 0)) r (now (room .exit)) ⌝ }
+    requires { ⌜ HoldRows (now from) (now to) n × (size ≡ length (partOf (now from) (now to) n)) × (at + 2 + size ≤ mostBookBytes) ⌝ }
+    ensures { λ r. ⌜ Put (now (room .entry)) at (twoBytes size ++ partOf (now (from .entry)) (now (to .entry)) n) r (now (room .exit)) ⌝ }
 {
     let mut p = put_two(room, at, size);
     p = put_rules(room, p, from, to, n, false);
@@ -230,15 +228,9 @@ fn put_trees(
 }
 
 // The book of the broader terms that the two rows hold, of so many bytes.
-fn put_book(
-    room: &mut [u8],
-    from: &[u16; ROWS],
-    to: &[u16; TERMS],
-    n: usize,
-    size: usize,
-)
-    requires { ⌜ HoldRows (now from) (now to) n × (size ≡ length (laid (rulesFor (broaderRows (now from) (now to) n 0)))) × (size ≤ mostBookBytes) × (size ≤ length (now room)) ⌝ }
-    ensures { λ _. ⌜ now (room .exit) ≡ laid (rulesFor (broaderRows (now (from .entry)) (now (to .entry)) n 0)) ++ drop size (now (room .entry)) ⌝ }
+fn put_book(room: &mut [u8], from: &[u16; ROWS], to: &[u16; TERMS], n: usize, size: usize)
+    requires { ⌜ HoldRows (now from) (now to) n × (size ≡ length (bookOf (now from) (now to) n)) × (size ≤ mostBookBytes) × (size ≤ length (now room)) ⌝ }
+    ensures { λ _. ⌜ now (room .exit) ≡ bookOf (now (from .entry)) (now (to .entry)) n ++ drop size (now (room .entry)) ⌝ }
 {
     let p = put_front(room, n);
     put_trees(room, p, from, to, n, size - 5 - 9 * n);

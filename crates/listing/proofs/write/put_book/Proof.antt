@@ -37,10 +37,13 @@ same-length c = search needs
 
 returns : tie.Need-returns
 returns c =
-    let a = c .before .before .before .before .before .before .before .before .before .args in
-    let pre = c .before .before .before .before .before .before .before .before .before .pre in
+    let front = c .before .before .before .before .before .before in
+    let a = front .before .before .before .args in
+    let pre = front .before .before .before .pre in
     let long = book-long (a .from .now) (a .to .now) (a .n) in
-    rw (pre .1) (book-put (a .from .now) (a .to .now) (a .n) (omega (arith, pre .1)) (omega (arith, pre .1, pre .3)) (c .before .before .before .before .before .before .put-front .ensures) (c .before .before .put-trees .ensures))
+    let trees = c .before .before .put-trees .ensures in
+    rw (pre .1)
+    (book-put (a .from .now) (a .to .now) (a .n) (omega (arith, pre .1)) (omega (arith, pre .1, pre .3)) (front .put-front .ensures) trees)
 
 pub put-book-spec : {M : Type 1} → statement M
 put-book-spec =

@@ -1,5 +1,5 @@
-use Rattle.listing.proofs.RuleWays.{last-first-long, last-second-long, last-first-put, last-second-put}
 -- `put_last` meets its contract.
+use Rattle.listing.proofs.RuleWays.{last-first-long, last-second-long, last-first-put, last-second-put}
 use native.Mathlib.Omega.{arith}
 use Rattle.reading.specs.Bytes.{twoBytes}
 use Rattle.listing.specs.Putting.{termLaid}
@@ -20,8 +20,10 @@ add-put-term-2 c = search needs
 
 put-term-requires : tie.Need-put-term-requires
 unfolding twoBytes termLaid
-put-term-requires c κs = let a = c .before .before .before .before .before .before .before .args in
-    (omega arith, omega (arith, c .before .before .before .put-choice .ensures .behind, last-second-long (a .above) (a .n) (a .x) (c .before .before .before .before .before .if1 .taken)))
+put-term-requires c κs =
+    let first = c .before .before .before in
+    let a = first .before .before .before .before .args in
+    (omega arith, omega (arith, first .put-choice .ensures .behind, last-second-long (a .above) (a .n) (a .x) (first .before .before .if1 .taken)))
 
 put-term-requires-2 : tie.Need-put-term-requires-2
 unfolding twoBytes termLaid
@@ -32,8 +34,10 @@ same-length : tie.Need-same-length
 same-length c = search needs
 
 returns : tie.Need-returns
-returns c = let a = c .before .before .before .before .before .before .before .before .before .before .args in
-    last-second-put (a .above) (a .n) (a .x) (c .before .before .before .before .before .before .before .before .if1 .taken) (c .before .before .before .before .before .before .put-choice .ensures) (c .before .before .put-term .ensures)
+returns c =
+    let first = c .before .before .before .before .before .before in
+    let a = first .before .before .before .before .args in
+    last-second-put (a .above) (a .n) (a .x) (first .before .before .if1 .taken) (first .put-choice .ensures) (c .before .before .put-term .ensures)
 
 same-length-2 : tie.Need-same-length-2
 same-length-2 c = search needs

@@ -20,15 +20,20 @@ add-put-choice-2 c = search needs
 
 put-choice-requires-2 : tie.Need-put-choice-requires-2
 unfolding twoBytes termLaid
-put-choice-requires-2 c κs = let a = c .before .before .before .before .before .before .before .args in
-    (omega arith, omega (arith, c .before .before .before .before .put-choice .ensures .behind, next-both (a .above) (a .n) (a .x) (c .before .if1 .taken)))
+put-choice-requires-2 c κs =
+    let first = c .before .before .before .before in
+    let a = first .before .before .before .args in
+    (omega arith, omega (arith, first .put-choice .ensures .behind, next-both (a .above) (a .n) (a .x) (c .before .if1 .taken)))
 
 same-length : tie.Need-same-length
 same-length c = search needs
 
 returns : tie.Need-returns
-returns c = let a = c .before .before .before .before .before .before .before .before .before .before .args in
-    next-second-put (a .above) (a .n) (a .x) (c .before .before .before .before .if1 .taken) (c .before .before .before .before .before .before .before .put-choice .ensures) (c .before .before .put-choice2 .ensures)
+returns c =
+    let test = c .before .before .before .before in
+    let first = test .before .before .before in
+    let a = first .before .before .before .args in
+    next-second-put (a .above) (a .n) (a .x) (test .if1 .taken) (first .put-choice .ensures) (c .before .before .put-choice2 .ensures)
 
 same-length-2 : tie.Need-same-length-2
 same-length-2 c = search needs

@@ -1,6 +1,6 @@
+-- `put_rules` meets its contract: the rules from heading x on are left to be put.
 use lib.ListN.{getD}
 use Rattle.listing.specs.Places.{bytesOf}
--- `put_rules` meets its contract: the rules from heading x on are left to be put.
 use Prim.Native.Nat.{_+_, _-_, _≤_}
 use native.Mathlib.Nat.{sub-zero}
 use native.Mathlib.Omega.{arith}
@@ -41,17 +41,20 @@ element-copy-out-put-rule-2 : tie.Need-element-copy-out-put-rule-2 Inv-loop μ-l
 element-copy-out-put-rule-2 c = search needs
 
 cast-put-rule-2 : tie.Need-cast-put-rule-2 Inv-loop μ-loop
-cast-put-rule-2 c = omega (arith, c .before .before .before .before .before .before .pre .0 .terms .filled (c .before .before .before .before .loop .x + 1) (omega arith))
+cast-put-rule-2 c =
+    let l = c .before .before .before .before .loop in
+    omega (arith, c .before .before .before .before .before .before .pre .0 .terms .filled (l .x + 1) (omega arith))
 
 put-rule-requires : tie.Need-put-rule-requires Inv-loop μ-loop
 put-rule-requires c κs =
-    let a = c .before .before .before .before .before .before .args in
+    let start = c .before .before .before .before .before .before in
+    let a = start .args in
     let l = c .before .before .before .before .loop in
     let less = c .before .before .before .loop-test .taken in
     let split = rules-more (a .from .now) (a .to .now) (a .above) (a .n) (l .x) less in
     let first = ruleLaid (a .above) (a .n) (bytesOf (a .to .now) (getD (a .from .now) (l .x) 0) (getD (a .from .now) (l .x + 1) 0)) in
     let rest = rulesLaid (a .above) (a .n) (broaderRows (a .from .now) (a .to .now) (a .n - (l .x + 1)) (l .x + 1)) in
-    (hold-row (a .from .now) (a .to .now) (a .n) (c .before .before .before .before .before .before .pre .0) (l .x) less, left-fits first rest split (l .inv .1) (c .before .before .before .before .before .before .pre .1))
+    (hold-row (a .from .now) (a .to .now) (a .n) (start .pre .0) (l .x) less, left-fits first rest split (l .inv .1) (start .pre .1))
 
 add-x : tie.Need-add-x Inv-loop μ-loop
 add-x c = search needs
@@ -61,9 +64,11 @@ loop-less c = search needs
 
 loop-again : tie.Need-loop-again Inv-loop μ-loop
 loop-again c =
-    let a = c .before .before .before .before .before .before .before .before .before .args in
-    let l = c .before .before .before .before .before .before .before .loop in
-    (omega arith, left-put (rules-more (a .from .now) (a .to .now) (a .above) (a .n) (l .x) (c .before .before .before .before .before .before .loop-test .taken)) (l .inv .1) (c .before .before .put-rule .ensures))
+    let test = c .before .before .before .before .before .before in
+    let l = test .before .loop in
+    let a = test .before .before .before .args in
+    let split = rules-more (a .from .now) (a .to .now) (a .above) (a .n) (l .x) (test .loop-test .taken) in
+    (omega arith, left-put split (l .inv .1) (c .before .before .put-rule .ensures))
 
 same-length : tie.Need-same-length Inv-loop μ-loop
 same-length c = left-same (c .before .loop .inv .1)

@@ -17,7 +17,9 @@ same-length : tie.Need-same-length
 same-length c = search needs
 
 returns : tie.Need-returns
-returns c = put-then (c .before .before .before .before .before .before .before .before .before .before .put .ensures) (put-then (c .before .before .before .before .before .before .put2 .ensures) (c .before .before .put3 .ensures))
+returns c =
+    let kind = c .before .before .before .before .before .before in
+    put-then (kind .before .before .before .before .put .ensures) (put-then (kind .put2 .ensures) (c .before .before .put3 .ensures))
 
 pub put-symbol-spec : {M : Type 1} → statement M
 put-symbol-spec =

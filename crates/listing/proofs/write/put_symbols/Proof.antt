@@ -21,7 +21,8 @@ put-symbol-requires : tie.Need-put-symbol-requires Inv-loop μ-loop
 put-symbol-requires c κs =
     let a = c .before .before .before .before .args in
     let l = c .before .before .loop in
-    left-fits (kindLaid (a .kind)) (kindsLaid (a .many - (l .i + 1)) (a .kind)) (kinds-one (a .many) (a .kind) (l .i) (c .before .loop-test .taken)) (l .inv .1) (c .before .before .before .before .pre)
+    let split = kinds-one (a .many) (a .kind) (l .i) (c .before .loop-test .taken) in
+    left-fits (kindLaid (a .kind)) (kindsLaid (a .many - (l .i + 1)) (a .kind)) split (l .inv .1) (c .before .before .before .before .pre)
 
 add-i : tie.Need-add-i Inv-loop μ-loop
 add-i c = search needs
@@ -31,9 +32,10 @@ loop-less c = search needs
 
 loop-again : tie.Need-loop-again Inv-loop μ-loop
 loop-again c =
-    let a = c .before .before .before .before .before .before .before .args in
-    let l = c .before .before .before .before .before .loop in
-    (omega arith, left-put (kinds-one (a .many) (a .kind) (l .i) (c .before .before .before .before .loop-test .taken)) (l .inv .1) (c .before .before .put-symbol .ensures))
+    let test = c .before .before .before .before in
+    let l = test .before .loop in
+    let a = test .before .before .before .args in
+    (omega arith, left-put (kinds-one (a .many) (a .kind) (l .i) (test .loop-test .taken)) (l .inv .1) (c .before .before .put-symbol .ensures))
 
 same-length : tie.Need-same-length Inv-loop μ-loop
 same-length c = left-same (c .before .loop .inv .1)

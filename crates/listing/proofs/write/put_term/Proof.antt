@@ -18,7 +18,9 @@ same-length : tie.Need-same-length
 same-length c = search needs
 
 returns : tie.Need-returns
-returns c = term-put (c .before .before .before .before .before .before .before .before .before .args .f) (c .before .before .before .before .before .before .put .ensures) (c .before .before .put-two .ensures)
+returns c =
+    let one = c .before .before .before .before .before .before in
+    term-put (one .before .before .before .args .f) (one .put .ensures) (c .before .before .put-two .ensures)
 
 pub put-term-spec : {M : Type 1} → statement M
 put-term-spec = tie.close (tie.spec put-requires put-two-requires same-length returns)

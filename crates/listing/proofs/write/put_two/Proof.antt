@@ -23,7 +23,9 @@ same-length : tie.Need-same-length
 same-length c = search needs
 
 returns : tie.Need-returns
-returns c = two-put (c .before .before .before .before .before .before .before .before .before .args .n) (c .before .before .before .before .before .before .put .ensures) (c .before .before .put2 .ensures)
+returns c =
+    let one = c .before .before .before .before .before .before in
+    two-put (one .before .before .before .args .n) (one .put .ensures) (c .before .before .put2 .ensures)
 
 pub put-two-spec : {M : Type 1} → statement M
 put-two-spec =
