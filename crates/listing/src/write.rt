@@ -116,12 +116,9 @@ fn put_next(room: &mut [u8], at: usize, x: usize, above: bool, n: usize) -> usiz
     requires { ⌜ (n ≤ mostHeadings) × (x < n) × Fits at (nextLaid above n x) ⌝ }
     ensures { λ r. ⌜ Put (now (room .entry)) at (nextLaid above n x) r (now (room .exit)) ⌝ }
 {
+    let own = n + n + x;
     let p = put_choice(room, at, x);
-    if above {
-        put_choice(room, p, n + n + x)
-    } else {
-        p
-    }
+    if above { put_choice(room, p, own) } else { p }
 }
 
 // The last.
@@ -130,8 +127,8 @@ fn put_last(room: &mut [u8], at: usize, x: usize, above: bool, n: usize) -> usiz
     ensures { λ r. ⌜ Put (now (room .entry)) at (nestLaid above n (x ∷ [])) r (now (room .exit)) ⌝ }
 {
     if above {
-        let p = put_choice(room, at, x);
-        put_term(room, p, n + n + x)
+        let q = put_choice(room, at, x);
+        put_term(room, q, n + n + x)
     } else {
         put_term(room, at, x)
     }

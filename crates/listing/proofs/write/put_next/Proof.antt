@@ -7,16 +7,17 @@ use borrow.Author.Needs.{needs}
 use Rattle.listing.proofs.write.put_next.Statement.{statement}
 use Rattle.listing.proofs.write.put_next.Tie as tie
 
+add-own : tie.Need-add-own
+add-own c = search needs
+
+add-own-2 : tie.Need-add-own-2
+add-own-2 c = search needs
+
 put-choice-requires : tie.Need-put-choice-requires
 unfolding twoBytes termLaid
-put-choice-requires c κs = let a = c .before .before .args in
+put-choice-requires c κs =
+    let a = c .before .before .args in
     (omega arith, omega (arith, next-some (a .above) (a .n) (a .x)))
-
-add-put-choice : tie.Need-add-put-choice
-add-put-choice c = search needs
-
-add-put-choice-2 : tie.Need-add-put-choice-2
-add-put-choice-2 c = search needs
 
 put-choice-requires-2 : tie.Need-put-choice-requires-2
 unfolding twoBytes termLaid
@@ -39,16 +40,17 @@ same-length-2 : tie.Need-same-length-2
 same-length-2 c = search needs
 
 returns-2 : tie.Need-returns-2
-returns-2 c = let a = c .before .before .before .before .before .before .args in
+returns-2 c =
+    let a = c .before .before .before .before .before .before .args in
     next-first-put (a .above) (a .n) (a .x) (c .if1 .left) (c .before .before .before .put-choice .ensures)
 
 pub put-next-spec : {M : Type 1} → statement M
 put-next-spec =
     tie.close
     (tie.spec
+    add-own
+    add-own-2
     put-choice-requires
-    add-put-choice
-    add-put-choice-2
     put-choice-requires-2
     same-length
     returns
