@@ -28,3 +28,6 @@ pub mod SavingRows
 pub mod RoundWays
 pub mod MarkWays
 pub mod SavingWays
+pub mod PutWays
+pub mod RuleWays
+pub mod WriteWays

@@ -14,4 +14,5 @@ pub mod TermRows
 pub mod Gathering
 pub mod Judging
 pub mod Saving
+pub mod Putting
 pub mod Cases

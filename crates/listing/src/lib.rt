@@ -3,3 +3,4 @@ mod circle;
 mod judge;
 mod lines;
 mod terms;
+pub mod write;
