@@ -11,9 +11,9 @@ use Rattle.symbols.specs.Symbols.{Symbol, noSymbol, symbolOf}
 use Rattle.expressions.specs.Expressions.{Expr}
 use Rattle.book.specs.Trees.{Tree, Trees, treeAt}
 use Rattle.book.specs.Rules.{Book, bookOf}
-use Rattle.listing.specs.Listing.{Broader}
-use Rattle.listing.specs.Terms.{term, operation, symbolsFor, nested, firstOf, secondOf, rulesBefore, exemptBefore, firstRules, secondRules, treesFor, rulesFor}
-use Rattle.listing.specs.Hops.{broaderOf}
+use Rattle.tagged.specs.Listing.{Broader}
+use Rattle.tagged.specs.Terms.{term, operation, symbolsFor, nested, firstOf, secondOf, rulesBefore, exemptBefore, firstRules, secondRules, treesFor, rulesFor}
+use Rattle.tagged.specs.Hops.{broaderOf}
 
 -- ---- rows of trees
 

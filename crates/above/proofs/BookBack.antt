@@ -17,11 +17,11 @@ use Rattle.expressions.specs.Expressions.{Expr}
 use Rattle.book.specs.Trees.{Tree, Trees}
 use Rattle.book.specs.TreeAt.{treeCodeAt, treeIn, itemAt, treesOf, treePart}
 use Rattle.book.specs.Admission.{readBook}
-use Rattle.listing.specs.Listing.{Broader}
-use Rattle.listing.specs.Terms.{term, operation, symbolsFor, rulesBefore, exemptBefore, firstRules, secondRules, treesFor, rulesFor}
-use Rattle.listing.specs.Laid.{symbolLaid, symbolsLaid, exprLaid, treeLaid, lengthFirst, treesLaid, laid}
-use Rattle.listing.specs.Write.{nodesOf, someOver, passes}
-use Rattle.listing.specs.Hops.{In, first, later, broaderOf, Inside}
+use Rattle.tagged.specs.Listing.{Broader}
+use Rattle.tagged.specs.Terms.{term, operation, symbolsFor, rulesBefore, exemptBefore, firstRules, secondRules, treesFor, rulesFor}
+use Rattle.tagged.specs.Laid.{symbolLaid, symbolsLaid, exprLaid, treeLaid, lengthFirst, treesLaid, laid}
+use Rattle.tagged.specs.Write.{nodesOf, someOver, passes}
+use Rattle.tagged.specs.Hops.{In, first, later, broaderOf, Inside}
 use Rattle.sorts.specs.Sorts.{ExprFits}
 use Rattle.above.proofs.Standing.{goes-on, passes-test, one-at, behind, two-at, byte-reads, length-reads}
 use Rattle.above.proofs.ExprBack.{Readable, whole-reads}

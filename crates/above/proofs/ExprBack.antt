@@ -13,8 +13,8 @@ use Rattle.reading.specs.Bytes.{versionOf, twoBytes, byteAt}
 use Rattle.symbols.specs.Symbols.{Symbols, symbolOf}
 use Rattle.expressions.specs.Expressions.{Expr, Exprs}
 use Rattle.expressions.specs.ExpressionAt.{leaving, nodeAt, variableAt, rowWith, choiceAt, appliedAt, applyAt, sharedAt, codeAt, exprAt, wholeAt, wholeExprAt}
-use Rattle.listing.specs.Laid.{exprLaid, rowLaid}
-use Rattle.listing.specs.Write.{nodesOf, nodesOfRow}
+use Rattle.tagged.specs.Laid.{exprLaid, rowLaid}
+use Rattle.tagged.specs.Write.{nodesOf, nodesOfRow}
 use Rattle.sorts.specs.Sorts.{ExprFits, RowFits}
 use Rattle.above.proofs.Standing.{goes-on, passes-test, one-at, behind, two-at, byte-reads, number-reads}
 

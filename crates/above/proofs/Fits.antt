@@ -10,9 +10,9 @@ use Rattle.expressions.specs.Expressions.{Expr, Exprs}
 use Rattle.book.specs.Trees.{treeAt}
 use Rattle.book.specs.Rules.{bookOf}
 use Rattle.machine.specs.Turn.{loaded}
-use Rattle.listing.specs.Listing.{Broader}
-use Rattle.listing.specs.Terms.{term, operation, symbolsFor, nested, firstOf, secondOf, treesFor, rulesFor}
-use Rattle.listing.specs.Hops.{In, first, later, broaderOf, Inside}
+use Rattle.tagged.specs.Listing.{Broader}
+use Rattle.tagged.specs.Terms.{term, operation, symbolsFor, nested, firstOf, secondOf, treesFor, rulesFor}
+use Rattle.tagged.specs.Hops.{In, first, later, broaderOf, Inside}
 use Rattle.sorts.specs.Sorts.{sortOf, argumentsOf, ExprFits, TreeFits, RulesFit}
 use Rattle.sorts.proofs.HeapsFit.{Sorted, loaded-fits}
 use Rattle.meaning.specs.Demand3.{question}

@@ -9,8 +9,8 @@ use native.Mathlib.Nat.{le-refl}
 use Rattle.expressions.specs.Expressions.{Expr, Exprs}
 use Rattle.book.specs.Trees.{Tree}
 use Rattle.book.specs.Rules.{Book}
-use Rattle.listing.specs.Terms.{nested}
-use Rattle.listing.specs.Hops.{In, first, later}
+use Rattle.tagged.specs.Terms.{nested}
+use Rattle.tagged.specs.Hops.{In, first, later}
 use Rattle.rewriting.specs.Scoped.{Scoped}
 use Rattle.meaning.specs.Partial.{Part, Parts, bot, toList, Hits, Gives, GivesRow}
 use Rattle.meaning.specs.Readings.{OperationGives}

@@ -11,13 +11,13 @@ use Rattle.reading.specs.Reading.{Reading, got, refusal}
 use Rattle.reading.specs.Bytes.{twoBytes}
 use Rattle.expressions.specs.Expressions.{Expr, Exprs}
 use Rattle.book.specs.Admission.{readBook, questionOpened, askedAt, readQuestion}
-use Rattle.listing.specs.Listing.{Broader, broaderIn}
-use Rattle.listing.specs.Terms.{symbolsFor, rulesFor}
-use Rattle.listing.specs.Laid.{exprLaid, laid}
-use Rattle.listing.specs.Write.{nodesOf, passes, refusing, written, bookFrom, Outcome}
-use Rattle.listing.specs.Hops.{Inside}
-use Rattle.listing.proofs.Accepted.{accepted}
-use Rattle.listing.proofs.Refused.{number-is, numbered}
+use Rattle.tagged.specs.Listing.{Broader, broaderIn}
+use Rattle.tagged.specs.Terms.{symbolsFor, rulesFor}
+use Rattle.tagged.specs.Laid.{exprLaid, laid}
+use Rattle.tagged.specs.Write.{nodesOf, passes, refusing, written, bookFrom, Outcome}
+use Rattle.tagged.specs.Hops.{Inside}
+use Rattle.tagged.proofs.Accepted.{accepted}
+use Rattle.tagged.proofs.Refused.{number-is, numbered}
 use Rattle.above.specs.Promised.{asking, Promised}
 use Rattle.above.proofs.Standing.{goes-on, passes-test, byte-reads, length-reads}
 use Rattle.above.proofs.ExprBack.{Readable, whole-reads}

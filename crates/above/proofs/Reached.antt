@@ -6,10 +6,10 @@ use Prim.Native.Nat.{ℕ, zero, suc, _+_, _≤_, _<_}
 use native.Mathlib.Omega.{arith}
 use lib.ListN.{length}
 use Rattle.expressions.specs.Expressions.{Expr, Exprs}
-use Rattle.listing.specs.Listing.{Broader}
-use Rattle.listing.specs.Terms.{termOf, aboveOf, nested, firstOf, secondOf}
-use Rattle.listing.specs.Hops.{In, first, later, broaderOf, IsBroader, Inside, Hops, here, hop, Above}
-use Rattle.listing.proofs.Members.{in-row}
+use Rattle.tagged.specs.Listing.{Broader}
+use Rattle.tagged.specs.Terms.{termOf, aboveOf, nested, firstOf, secondOf}
+use Rattle.tagged.specs.Hops.{In, first, later, broaderOf, IsBroader, Inside, Hops, here, hop, Above}
+use Rattle.tagged.proofs.Members.{in-row}
 use Rattle.rewriting.specs.Scoped.{Scoped}
 use Rattle.rewriting.specs.Rewriting.{Value, Values, con, noValues}
 use Rattle.meaning.specs.Partial.{Part, Parts, bot, Gives}

@@ -11,9 +11,9 @@ use Rattle.expressions.specs.Expressions.{Expr, Exprs}
 use Rattle.book.specs.Rules.{Rules, Book, bookOf}
 use Rattle.nodes.specs.Nodes.{Node, at}
 use Rattle.machine.specs.Made.{make}
-use Rattle.listing.specs.Listing.{Broader}
-use Rattle.listing.specs.Terms.{rulesFor}
-use Rattle.listing.specs.Hops.{Inside}
+use Rattle.tagged.specs.Listing.{Broader}
+use Rattle.tagged.specs.Terms.{rulesFor}
+use Rattle.tagged.specs.Hops.{Inside}
 use Rattle.rewriting.specs.Rewriting.{Value}
 use Rattle.sorts.proofs.HeapsFit.{Sorted}
 use Rattle.meaning.specs.Demand3.{question, Reachable}

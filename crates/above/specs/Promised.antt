@@ -8,9 +8,9 @@ use Rattle.reading.specs.Reading.{got}
 use Rattle.reading.specs.Bytes.{twoBytes}
 use Rattle.expressions.specs.Expressions.{Expr, Exprs}
 use Rattle.book.specs.Admission.{readBook, readQuestion}
-use Rattle.listing.specs.Listing.{Broader, broaderIn}
-use Rattle.listing.specs.Terms.{rulesFor}
-use Rattle.listing.specs.Write.{passes, Outcome}
+use Rattle.tagged.specs.Listing.{Broader, broaderIn}
+use Rattle.tagged.specs.Terms.{rulesFor}
+use Rattle.tagged.specs.Write.{passes, Outcome}
 use Rattle.above.specs.Reached.{Reached}
 
 -- a question that applies one symbol of the book: version byte, length, sort 0, code 1 and the symbol

@@ -3,9 +3,9 @@ use mathlib.Core.Path.{_≡_}
 use mathlib.Core.Logic.{_↔_}
 use Prim.Native.Nat.{ℕ, _<_}
 use lib.ListN.{length}
-use Rattle.listing.specs.Listing.{Broader}
-use Rattle.listing.specs.Terms.{broaderThan, aboveOf, rulesFor}
-use Rattle.listing.specs.Hops.{IsBroader, Above}
+use Rattle.tagged.specs.Listing.{Broader}
+use Rattle.tagged.specs.Terms.{broaderThan, aboveOf, rulesFor}
+use Rattle.tagged.specs.Hops.{IsBroader, Above}
 use Rattle.rewriting.specs.Rewriting.{Value, con, noValues}
 use Rattle.meaning.specs.Demand3.{Reachable}
 

@@ -1,83 +1,91 @@
-// Reads a listing from standard input, writes its book, and prints what is handed back, then the book in hexadecimal.
-ghost use Prim.Native.Nat.{_+_, _<_, _≤_};
+// Reads a table of tagged listings from standard input and prints two lines for each: what the writer of books hands back, with a checksum of the whole
+// room, and what is told when it is saved, with each number of the row that was written. tools/listing_cases.py makes the table and says what each row gives.
+ghost use Prim.Native.Nat.{_<_, _≤_};
 ghost use lib.ListN.{length};
-use limits::Limits;
-use listing::write::write_listing;
+use reading::number;
+use reading::part_of;
+use tables::at_most;
+use tables::show_item;
+use tables::sum_of_bytes;
+use tagged::save_listing;
+use tagged::write_listing;
 
-// The longest listing that is read.
-const LONGEST: usize = 1048576;
+// How long each memory is.
+const BYTES: usize = 33000;
 
-// How many bytes of the book stand in a line.
-const LINE: usize = 32;
+const NUMBERS: usize = 400;
 
-// One byte more than the longest listing, so that bytes left over are seen: these print only `J`.
+// What the row holds before.
+const MARK: u16 = 43690;
+
 fn main() {
-    let mut input = [0u8; LONGEST + 1];
+    let mut input = [0u8; 262144];
     let n = io::read_full(0, &mut input);
-    if LONGEST < n {
-        io::write_all(1, b"J\n");
-        return;
-    }
-    show_listing(&input[..n]);
+    show_all(&input[..n]);
 }
 
-fn show_listing(s: &[u8]) {
-    let mut room = [0u8; Limits::BOOK];
-    let w = write_listing(s, &mut room);
-    io::write_all(1, b"R");
+fn show_all(input: &[u8])
+    requires { ⌜ length (now input) ≤ 262144 ⌝ }
+{
+    let mut p: usize = 0;
+    while p < input.len() {
+        p = show_row(input, p);
+    }
+}
+
+// One row: how many bytes and numbers are lent, the listing's length in four bytes, and the listing. The answer is the place behind it.
+fn show_row(input: &[u8], p: usize) -> usize
+    requires { ⌜ (p < length (now input)) × (length (now input) ≤ 262144) ⌝ }
+    ensures { λ r. ⌜ p < r ⌝ }
+{
+    let end = p + 8 + number(input, p + 4) * 65536 + number(input, p + 6);
+    show_book(part_of(input, p + 8, end), number(input, p));
+    show_saved(part_of(input, p + 8, end), number(input, p + 2));
+    end
+}
+
+fn show_book(listing: &[u8], lent: usize) {
+    let mut room = [170u8; BYTES];
+    let length = at_most(lent, BYTES);
+    let w = write_listing(listing, &mut room[0..length]);
+    io::write_all(1, b"L");
     show_item(w.number as u64);
     show_item(w.line as u64);
     show_item(w.bytes as u64);
+    show_item(sum_of(&room));
     io::write_all(1, b"\n");
-    let size = at_most(w.bytes, Limits::BOOK);
-    show_book(&room[0..size]);
 }
 
-fn show_item(n: u64) {
-    io::write_all(1, b" ");
-    io::print_decimal(1, n);
+// The checksum of the whole room, lent or not.
+fn sum_of(room: &[u8; BYTES]) -> u64 {
+    sum_of_bytes(room) as u64
 }
 
-fn at_most(n: usize, most: usize) -> usize
-    ensures { λ r. ⌜ r ≤ most ⌝ }
-{
-    if most < n { most } else { n }
+fn show_saved(listing: &[u8], lent: usize) {
+    let mut row = [MARK; NUMBERS];
+    let length = at_most(lent, NUMBERS);
+    let s = save_listing(listing, &mut row[0..length]);
+    io::write_all(1, b"O");
+    show_item(s.number as u64);
+    show_item(s.line as u64);
+    show_item(s.headings as u64);
+    show_item(s.circle as u64);
+    io::write_all(1, b":");
+    show_written(&row);
+    io::write_all(1, b"\n");
 }
 
-// The place behind the line of the book that starts at p.
-fn behind_line(p: usize, size: usize) -> usize
-    requires { ⌜ p < size ⌝ }
-    ensures { λ r. ⌜ (p < r) × (r ≤ p + 32) × (r ≤ size) ⌝ }
-{
-    if size - p < LINE { size } else { p + LINE }
-}
-
-fn show_book(book: &[u8]) {
-    let mut p: usize = 0;
-    while p < book.len() {
-        let end = behind_line(p, book.len());
-        show_line(&book[p..end]);
-        p = end;
-    }
-}
-
-// Two digits to a byte, and a newline.
-fn show_line(bytes: &[u8])
-    requires { ⌜ length (now bytes) ≤ 32 ⌝ }
-{
-    let mut line = [10u8; 2 * LINE + 1];
+// The numbers that are not as they were.
+fn show_written(row: &[u16; NUMBERS]) {
     let mut i: usize = 0;
-    while i < bytes.len() {
-        line[2 * i] = digit(bytes[i] / 16);
-        line[2 * i + 1] = digit(bytes[i] % 16);
+    while i < NUMBERS {
+        show_unless_mark(row[i]);
         i += 1;
     }
-    let end = 2 * bytes.len() + 1;
-    io::write_all(1, &line[0..end]);
 }
 
-fn digit(n: u8) -> u8
-    requires { ⌜ n < 16 ⌝ }
-{
-    if n < 10 { 48 + n } else { 87 + n }
+fn show_unless_mark(n: u16) {
+    if n != MARK {
+        show_item(n as u64);
+    }
 }

@@ -18,12 +18,12 @@ use Rattle.book.specs.Trees.{Tree}
 use Rattle.machine.specs.Made.{make, exprChoices}
 use Rattle.machine.specs.Turn.{Rooms, State, Turned, whole, refused, Ended, turn, turns, loaded}
 use Rattle.run.proofs.OnTheRow.{turns-none, turns-spent, turns-refused, turns-whole}
-use Rattle.listing.specs.Listing.{Broader}
-use Rattle.listing.specs.Terms.{nested, firstOf, secondOf, firstRules, secondRules, rulesFor}
-use Rattle.listing.specs.Laid.{laid}
-use Rattle.listing.specs.Write.{nodesOf, someOver, passes}
-use Rattle.listing.specs.Hops.{In, first, later, broaderOf, Inside}
-use Rattle.listing.proofs.Members.{in-row}
+use Rattle.tagged.specs.Listing.{Broader}
+use Rattle.tagged.specs.Terms.{nested, firstOf, secondOf, firstRules, secondRules, rulesFor}
+use Rattle.tagged.specs.Laid.{laid}
+use Rattle.tagged.specs.Write.{nodesOf, someOver, passes}
+use Rattle.tagged.specs.Hops.{In, first, later, broaderOf, Inside}
+use Rattle.tagged.proofs.Members.{in-row}
 use Rattle.above.proofs.BookBack.{or-false}
 use Rattle.above.proofs.Book.{B, constructs, first-operates, second-operates, first-rule, second-rule}
 use Rattle.nights.proofs.Weights.{Plain, Weighs, Load, load-front}

@@ -6,11 +6,11 @@ use native.Mathlib.Omega.{arith}
 use native.Mathlib.Nat.{not-suc-le-zero}
 use lib.ListN.{length, getD}
 use Rattle.rewriting.proofs.Lists.{getD-mapped}
-use Rattle.listing.specs.Listing.{Broader}
-use Rattle.listing.specs.Hops.{In, first, later, broaderOf, IsBroader, Inside, hop, HasCircle}
-use Rattle.listing.specs.Levels.{levels}
-use Rattle.listing.proofs.Levels.{levels-are}
-use Rattle.listing.proofs.Ways.{chain-short}
+use Rattle.tagged.specs.Listing.{Broader}
+use Rattle.tagged.specs.Hops.{In, first, later, broaderOf, IsBroader, Inside, hop, HasCircle}
+use Rattle.tagged.specs.Levels.{levels}
+use Rattle.tagged.proofs.Levels.{levels-are}
+use Rattle.tagged.proofs.Ways.{chain-short}
 use Rattle.nights.specs.Costs.{Price, sums, costFrom, rounds, costs, costAt}
 
 -- the same costs of the broader terms make the same cost

@@ -15,9 +15,9 @@ use Rattle.book.specs.Trees.{Tree}
 use Rattle.machine.specs.Made.{make, exprChoices}
 use Rattle.machine.specs.Turn.{Rooms, turns, loaded}
 use Rattle.limits.specs.Sizes.{mostChoices}
-use Rattle.listing.specs.Listing.{Broader}
-use Rattle.listing.specs.Terms.{nested, secondOf, aboveOf}
-use Rattle.listing.specs.Hops.{In, first, later, broaderOf, Inside, HasCircle}
+use Rattle.tagged.specs.Listing.{Broader}
+use Rattle.tagged.specs.Terms.{nested, secondOf, aboveOf}
+use Rattle.tagged.specs.Hops.{In, first, later, broaderOf, Inside, HasCircle}
 use Rattle.above.proofs.Book.{B, constructs, second-operates, second-rule}
 use Rattle.nights.specs.Costs.{Price, turnsPrice, choicesPrice, entriesPrice, sums, costFrom, costs, costAt}
 use Rattle.nights.proofs.Weights.{Plain, Weighs, Load}

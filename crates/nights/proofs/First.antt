@@ -15,9 +15,9 @@ use Rattle.expressions.specs.Expressions.{Expr}
 use Rattle.book.specs.Trees.{Tree}
 use Rattle.machine.specs.Made.{make, exprChoices}
 use Rattle.machine.specs.Turn.{Rooms, turns, loaded}
-use Rattle.listing.specs.Listing.{Broader}
-use Rattle.listing.specs.Terms.{nested, firstOf, broaderThan}
-use Rattle.listing.specs.Hops.{broaderOf, Inside}
+use Rattle.tagged.specs.Listing.{Broader}
+use Rattle.tagged.specs.Terms.{nested, firstOf, broaderThan}
+use Rattle.tagged.specs.Hops.{broaderOf, Inside}
 use Rattle.above.proofs.Book.{B, constructs, first-operates, first-rule}
 use Rattle.nights.proofs.Weights.{Plain, Weighs, Load}
 use Rattle.nights.proofs.Paying.{mostRecord, open-few, Ruled, Law}

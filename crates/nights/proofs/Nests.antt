@@ -6,8 +6,8 @@ use native.Mathlib.Omega.{arith}
 use lib.ListN.{length}
 use Rattle.expressions.specs.Expressions.{Expr, Exprs}
 use Rattle.machine.specs.Made.{exprChoices}
-use Rattle.listing.specs.Terms.{nested, firstOf, secondOf}
-use Rattle.listing.specs.Hops.{In, first, later}
+use Rattle.tagged.specs.Terms.{nested, firstOf, secondOf}
+use Rattle.tagged.specs.Hops.{In, first, later}
 use Rattle.nights.proofs.Weights.{Plain}
 
 module _ (Q : ℕ → Type 0) (φ : ℕ → ℕ) (κ γ : ℕ) where

@@ -12,11 +12,11 @@ use Rattle.reading.specs.Reading.{got}
 use Rattle.expressions.specs.Expressions.{Expr, Exprs}
 use Rattle.book.specs.Rules.{Rules, bookOf}
 use Rattle.book.specs.Admission.{readBook, readQuestion}
-use Rattle.listing.specs.Listing.{Broader}
-use Rattle.listing.specs.Terms.{rulesFor}
-use Rattle.listing.specs.Hops.{Inside, HasCircle}
-use Rattle.listing.specs.Write.{passes, bookFrom}
-use Rattle.listing.proofs.Accepted.{accepted}
+use Rattle.tagged.specs.Listing.{Broader}
+use Rattle.tagged.specs.Terms.{rulesFor}
+use Rattle.tagged.specs.Hops.{Inside, HasCircle}
+use Rattle.tagged.specs.Write.{passes, bookFrom}
+use Rattle.tagged.proofs.Accepted.{accepted}
 use Rattle.machine.specs.Made.{make}
 use Rattle.machine.specs.Turn.{turns, loaded}
 use Rattle.machine.specs.Run.{Memory, Outcome, roomsOf, endedAs, runLoaded, run}

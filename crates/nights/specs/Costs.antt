@@ -2,7 +2,7 @@
 use mathlib.Core.List.{List, [], _∷_, map}
 use Prim.Native.Nat.{ℕ, zero, suc, _+_, _-_}
 use lib.ListN.{length, getD, replicate}
-use Rattle.listing.specs.Listing.{Broader}
+use Rattle.tagged.specs.Listing.{Broader}
 
 -- a heading without broader terms costs `none`; else each costs `each` and its own cost, and `off` goes off the sum
 pub record Price : Type 0 where

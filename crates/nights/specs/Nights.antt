@@ -5,9 +5,9 @@ use mathlib.Core.List.{List, [], _∷_}
 use Prim.Native.Nat.{ℕ, _+_, _*_, _≤_, _<_}
 use lib.ListN.{length, take}
 use Rattle.limits.specs.Sizes.{mostChoices}
-use Rattle.listing.specs.Listing.{Broader}
-use Rattle.listing.specs.Hops.{broaderOf, IsBroader, Above, HasCircle}
-use Rattle.listing.specs.Write.{Outcome as Written}
+use Rattle.tagged.specs.Listing.{Broader}
+use Rattle.tagged.specs.Hops.{broaderOf, IsBroader, Above, HasCircle}
+use Rattle.tagged.specs.Write.{Outcome as Written}
 use Rattle.machine.specs.Answers.{Answer}
 use Rattle.machine.specs.Turn.{Rooms}
 use Rattle.machine.specs.Run.{Memory, Outcome, roomsOf, run}

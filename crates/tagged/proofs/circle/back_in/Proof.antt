@@ -1,0 +1,87 @@
+-- `back_in` meets its contract: x was not reached from itself in fewer hops.
+use mathlib.Core.Path.{_≡_}
+use Prim.Native.Nat.{ℕ, _-_, _≤_, _<_}
+use native.Mathlib.Omega.{arith}
+use Rattle.tagged.specs.Saving.{held}
+use Rattle.tagged.proofs.SavingRows.{held-length}
+use Rattle.tagged.proofs.MarkWays.{below-none, Backed, backed-none, backed-is, backed-more}
+use borrow.Author.Needs.{needs}
+use Rattle.tagged.proofs.circle.back_in.Statement.{statement}
+use Rattle.tagged.proofs.circle.back_in.Tie as tie
+use Rattle.tagged.proofs.circle.back_in.Reads as reads
+use Rattle.tagged.proofs.circle.back_in.Lts as lts
+use Rattle.tagged.proofs.circle.mark_at.Reads as mark-at-reads
+use Rattle.tagged.proofs.circle.one_hop.Reads as one-hop-reads
+
+abbrev Inv-loop : tie.InvT-loop
+Inv-loop from to n x best marks₀ k₀ marks k = (k ≤ best) × Backed (held from to n) x k marks
+
+abbrev μ-loop : tie.MeasureT-loop
+μ-loop from to n x best marks₀ k₀ marks k = best - k
+
+mark-at-requires : tie.Need-mark-at-requires Inv-loop μ-loop
+mark-at-requires c κs = (c .pre .1, c .pre .0 .terms .few)
+
+loop-holds : tie.Need-loop-holds Inv-loop μ-loop
+loop-holds c =
+    let a = c .before .args in
+    let broader = held (a .from .now) (a .to .now) (a .n) in
+    let none = below-none broader (a .x) (a .n) (c .mark-at .result) (held-length (a .from .now) (a .to .now) (a .n) 0) (c .mark-at .ensures) in
+    (omega (arith, c .before .pre .2), backed-none broader (a .x) (c .mark-at .result) none)
+
+one-hop-requires : tie.Need-one-hop-requires Inv-loop μ-loop
+one-hop-requires c κs = c .before .before .before .before .pre .0
+
+array-read-if1 : tie.Need-array-read-if1 Inv-loop μ-loop
+array-read-if1 c = omega (arith, c .before .before .before .before .before .pre .1, c .before .before .before .before .before .pre .0 .terms .few)
+
+returns : tie.Need-returns Inv-loop μ-loop
+returns c =
+    let a = c .before .before .before .before .before .before .args in
+    let loop = c .before .before .before .before .loop in
+    let broader = held (a .from .now) (a .to .now) (a .n) in
+    record {
+      any = loop .inv .1 .any;
+      within = loop .inv .0;
+      before = loop .inv .1 .before;
+      back = λ less. backed-is broader (a .x) (loop .k) (loop .marks) (c .before .one-hop .result) (loop .inv .1) (c .before .one-hop .ensures) (c .if1 .taken);
+    }
+
+add-k : tie.Need-add-k Inv-loop μ-loop
+add-k c = omega (arith, c .before .before .before .before .before .before .pre .3)
+
+loop-less : tie.Need-loop-less Inv-loop μ-loop
+loop-less c = search needs
+
+loop-again : tie.Need-loop-again Inv-loop μ-loop
+loop-again c =
+    let a = c .before .before .before .before .before .before .args in
+    let loop = c .before .before .before .before .loop in
+    let broader = held (a .from .now) (a .to .now) (a .n) in
+    (omega arith, backed-more broader (a .x) (loop .k) (loop .marks) (c .before .one-hop .result) (loop .inv .1) (c .before .one-hop .ensures) (c .if1 .left))
+
+returns-2 : tie.Need-returns-2 Inv-loop μ-loop
+returns-2 c =
+    let loop = c .before .loop in
+    record {
+      any = c .before .before .before .pre .2;
+      within = omega arith;
+      before = λ k any less. loop .inv .1 .before k any (omega arith);
+      back = λ less. absurd (omega arith);
+    }
+
+pub back-in-spec : {M : Type 1} → statement M
+back-in-spec =
+    tie.close
+    (tie.spec
+    Inv-loop
+    μ-loop
+    mark-at-requires
+    loop-holds
+    one-hop-requires
+    array-read-if1
+    returns
+    add-k
+    loop-less
+    loop-again
+    returns-2)

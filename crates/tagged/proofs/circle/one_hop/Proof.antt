@@ -1,0 +1,63 @@
+-- `one_hop` meets its contract: the marks are filled heading by heading.
+use mathlib.Core.Bool.{Bool, true, false}
+use Prim.Native.Nat.{ℕ, _-_, _≤_, _<_}
+use native.Mathlib.Omega.{arith}
+use Rattle.tagged.specs.Hops.{broaderOf}
+use Rattle.tagged.specs.Circle.{someMarked}
+use Rattle.tagged.specs.Saving.{held}
+use Rattle.tagged.proofs.SavingRows.{Filled, fill-none, fill-more, fill-all, broader-past}
+use Rattle.tagged.proofs.MarkWays.{some-nobody}
+use borrow.Author.Needs.{needs}
+use Rattle.tagged.proofs.circle.one_hop.Statement.{statement}
+use Rattle.tagged.proofs.circle.one_hop.Tie as tie
+use Rattle.tagged.proofs.circle.one_hop.Reads as reads
+use Rattle.tagged.proofs.circle.one_hop.Lts as lts
+use Rattle.tagged.proofs.circle.some_marked.Reads as some-marked-reads
+
+abbrev Inv-loop : tie.InvT-loop
+Inv-loop from to n marks next₀ x₀ next x = (x ≤ n) × Filled (λ (y : ℕ). someMarked marks (broaderOf (held from to n) y)) false 341 next x
+
+abbrev μ-loop : tie.MeasureT-loop
+μ-loop from to n marks next₀ x₀ next x = n - x
+
+loop-holds : tie.Need-loop-holds Inv-loop μ-loop
+loop-holds c = (omega arith, fill-none _ false 341)
+
+some-marked-requires : tie.Need-some-marked-requires Inv-loop μ-loop
+some-marked-requires c κs = (c .before .before .pre, c .loop-test .taken)
+
+array-write-next : tie.Need-array-write-next Inv-loop μ-loop
+array-write-next c = omega (arith, c .before .before .before .pre .terms .few)
+
+add-x : tie.Need-add-x Inv-loop μ-loop
+add-x c = search needs
+
+loop-less : tie.Need-loop-less Inv-loop μ-loop
+loop-less c = search needs
+
+loop-again : tie.Need-loop-again Inv-loop μ-loop
+loop-again c =
+    let low : c .before .before .loop .x < 341 = omega (arith, c .before .before .before .pre .terms .few) in
+    (omega arith, fill-more _ false 341 (c .before .before .loop .next) (c .before .before .loop .x) (c .some-marked .result) low (c .some-marked .ensures) (c .before .before .loop .inv .1))
+
+returns : tie.Need-returns Inv-loop μ-loop
+returns c =
+    let a = c .before .before .args in
+    let loop = c .before .loop in
+    let broader = held (a .from .now) (a .to .now) (a .n) in
+    fill-all _ false 341 (loop .next) (loop .x) (loop .inv .1)
+    (λ y past. some-nobody (a .marks .now) (broaderOf broader y) (broader-past (a .from .now) (a .to .now) (a .n) (c .before .before .pre) y (omega arith)))
+
+pub one-hop-spec : {M : Type 1} → statement M
+one-hop-spec =
+    tie.close
+    (tie.spec
+    Inv-loop
+    μ-loop
+    loop-holds
+    some-marked-requires
+    array-write-next
+    add-x
+    loop-less
+    loop-again
+    returns)
