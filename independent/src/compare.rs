@@ -60,7 +60,7 @@ pub fn compare(settings: &Settings) -> bool {
     std::thread::scope(|scope| {
         for _ in 0..settings.threads {
             std::thread::Builder::new()
-                .stack_size(64 << 20)
+                .stack_size(crate::STACK)
                 .spawn_scoped(scope, || {
                     let mut own_seen = Seen::default();
                     let mut own_kinds = Seen::default();

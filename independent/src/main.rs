@@ -11,6 +11,7 @@ mod jobs;
 mod make;
 mod random;
 mod seen;
+mod shares;
 mod sizes;
 mod sorted;
 mod special;
@@ -29,23 +30,34 @@ const USAGE: &str = "usage:
   independent make SEED NUMBER             one input of a seed, to standard output
   independent compare PROGRAM [--emulator CMD] [--seed S] [--count N] [--threads T] [--keep FILE]";
 
+/// Shared parts nest some thousands deep, and reading, building and dropping them goes down with them.
+const STACK: usize = 256 << 20;
+
 fn main() {
+    let worker = std::thread::Builder::new().stack_size(STACK).spawn(command).expect("a thread");
+    if worker.join().is_err() {
+        std::process::exit(2);
+    }
+}
+
+/// All of standard input.
+fn given() -> Vec<u8> {
+    let mut input = Vec::new();
+    std::io::stdin().read_to_end(&mut input).expect("standard input");
+    input
+}
+
+fn command() {
     let words: Vec<String> = std::env::args().skip(1).collect();
     match words.first().map(String::as_str) {
         Some("expand") if words.len() == 1 => {
-            let mut input = Vec::new();
-            std::io::stdin().read_to_end(&mut input).expect("standard input");
-            print!("{}", expand::expand(&input, &mut seen::Seen::default()).0);
+            print!("{}", expand::expand(&given(), &mut seen::Seen::default()).0);
         }
         Some("edges") if words.len() == 1 => {
-            let mut table = Vec::new();
-            std::io::stdin().read_to_end(&mut table).expect("standard input");
-            print!("{}", edges::edges(&table).expect("a whole table"));
+            print!("{}", edges::edges(&given()).expect("a whole table"));
         }
         Some("jobs") if words.len() == 1 => {
-            let mut table = Vec::new();
-            std::io::stdin().read_to_end(&mut table).expect("standard input");
-            print!("{}", jobs::jobs(&table).expect("a whole table"));
+            print!("{}", jobs::jobs(&given()).expect("a whole table"));
         }
         Some("make") if words.len() == 3 => {
             let made = make::make(number(&words[1]), number(&words[2]));
