@@ -5,6 +5,7 @@
 use crate::evaluator::{evaluate, Decision, Entry, Memory, Outcome};
 use crate::expand::answer_lines;
 use crate::seen::Seen;
+use crate::text::checksum;
 
 /// How long each memory is, lent or not, and what stands in it before a run; a list place has a root and all open.
 const NODE_NUMBERS: usize = 32_010;
@@ -25,7 +26,7 @@ struct Row<'a> {
     question: &'a [u8],
 }
 
-fn take<'a>(rest: &mut &'a [u8], count: usize) -> Option<&'a [u8]> {
+pub fn take<'a>(rest: &mut &'a [u8], count: usize) -> Option<&'a [u8]> {
     if rest.len() < count {
         return None;
     }
@@ -57,11 +58,6 @@ fn row<'a>(rest: &mut &'a [u8]) -> Option<Row<'a>> {
         book: lengthy(rest)?,
         question: lengthy(rest)?,
     })
-}
-
-/// c starts at 0 and becomes (c * 31 + v) % 4294967296 for each number.
-fn checksum(numbers: impl Iterator<Item = u64>) -> u64 {
-    numbers.fold(0, |c, v| (c * 31 + v) % 4_294_967_296)
 }
 
 /// The numbers of an entry: its root, then its decisions.

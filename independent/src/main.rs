@@ -3,6 +3,7 @@
 
 mod admit;
 mod compare;
+mod convert;
 mod edges;
 mod encode;
 mod evaluator;
@@ -15,6 +16,7 @@ mod shares;
 mod sizes;
 mod sorted;
 mod special;
+mod text;
 #[cfg(test)]
 mod worked;
 
@@ -24,11 +26,11 @@ const DEFAULT_SEED: u64 = 1;
 const DEFAULT_COUNT: u64 = 20_000;
 
 const USAGE: &str = "usage:
-  independent expand                       standard input to standard output, as the program `expand`
-  independent edges                        the same, as the program `edges`
-  independent jobs                         the same, as the program `jobs`
-  independent make SEED NUMBER             one input of a seed, to standard output
-  independent compare PROGRAM [--emulator CMD] [--seed S] [--count N] [--threads T] [--keep FILE]";
+  independent NAME                         standard input to standard output, as the program NAME:
+                                           expand, convert; for whole tables: conversions, edges, jobs
+  independent make MODE SEED NUMBER        one input of a seed, to standard output
+  independent compare MODE PROGRAM [--emulator CMD] [--seed S] [--count N] [--threads T] [--keep FILE]
+where MODE is expand or convert";
 
 /// Shared parts nest some thousands deep, and reading, building and dropping them goes down with them.
 const STACK: usize = 256 << 20;
@@ -50,26 +52,25 @@ fn given() -> Vec<u8> {
 fn command() {
     let words: Vec<String> = std::env::args().skip(1).collect();
     match words.first().map(String::as_str) {
-        Some("expand") if words.len() == 1 => {
-            print!("{}", expand::expand(&given(), &mut seen::Seen::default()).0);
-        }
-        Some("edges") if words.len() == 1 => {
-            print!("{}", edges::edges(&given()).expect("a whole table"));
-        }
-        Some("jobs") if words.len() == 1 => {
-            print!("{}", jobs::jobs(&given()).expect("a whole table"));
-        }
-        Some("make") if words.len() == 3 => {
-            let made = make::make(number(&words[1]), number(&words[2]));
+        Some("make") if words.len() == 4 => {
+            let made = (mode(&words[1]).make)(number(&words[2]), number(&words[3]));
             eprintln!("made as {}", made.kind);
             std::io::stdout().write_all(&made.input).expect("standard output");
         }
-        Some("compare") if words.len() >= 2 => {
-            let settings = settings(&words[1..]);
+        Some("compare") if words.len() >= 3 => {
+            let settings = settings(mode(&words[1]), &words[2..]);
             std::process::exit(if compare::compare(&settings) { 0 } else { 1 });
         }
+        Some("edges") if words.len() == 1 => print!("{}", edges::edges(&given()).expect("a whole table")),
+        Some("jobs") if words.len() == 1 => print!("{}", jobs::jobs(&given()).expect("a whole table")),
+        Some("conversions") if words.len() == 1 => print!("{}", convert::table(&given()).expect("a whole table")),
+        Some(name) if words.len() == 1 => print!("{}", (mode(name).own)(&given(), &mut seen::Seen::default()).0),
         _ => usage(),
     }
+}
+
+fn mode(name: &str) -> &'static compare::Mode {
+    compare::MODES.iter().find(|mode| mode.name == name).unwrap_or_else(|| usage())
 }
 
 fn usage() -> ! {
@@ -81,11 +82,11 @@ fn number(word: &str) -> u64 {
     word.parse().unwrap_or_else(|_| usage())
 }
 
-fn settings(words: &[String]) -> compare::Settings {
+fn settings(mode: &'static compare::Mode, words: &[String]) -> compare::Settings {
     let threads = std::thread::available_parallelism().map_or(1, |count| count.get());
     let keep = std::env::temp_dir().join("independent-difference.bin").to_string_lossy().into_owned();
     let mut settings =
-        compare::Settings { command: Vec::new(), seed: DEFAULT_SEED, count: DEFAULT_COUNT, threads, keep };
+        compare::Settings { mode, command: Vec::new(), seed: DEFAULT_SEED, count: DEFAULT_COUNT, threads, keep };
     let mut program = None;
     let mut rest = words.iter();
     while let Some(word) = rest.next() {

@@ -156,8 +156,17 @@ fn fuel(random: &mut Random, book: &[u8], question: &[u8]) -> u32 {
 }
 
 fn some_book(random: &mut Random) -> Book {
+    let edition = version(random);
+    some_book_of(random, edition)
+}
+
+/// A sound book of this version, with or without shared parts in version 2.
+pub fn some_book_of(random: &mut Random, version: u8) -> Book {
     let mut book = if random.percent(70) { sorted::book(random) } else { special::usual(random).0 };
-    some_edition(random, &mut book);
+    if version == 2 {
+        let percent = some_shares(random);
+        shares::to_version_2(random, &mut book, percent);
+    }
     book
 }
 
@@ -218,7 +227,7 @@ fn damage_item(random: &mut Random, item: &mut Vec<u8>) {
     }
 }
 
-fn damaged_book(random: &mut Random) -> (Vec<u8>, Vec<u8>) {
+pub fn damaged_book(random: &mut Random) -> (Vec<u8>, Vec<u8>) {
     let mut book = some_book(random);
     let question = asked(random, &book).encoded().bytes;
     let bytes = match random.below(15) {
@@ -450,8 +459,8 @@ fn damaged_question(random: &mut Random) -> (Vec<u8>, Vec<u8>) {
     let book = some_book(random);
     let mut asked = asked(random, &book);
     let Asked { version, sort, .. } = asked;
-    let bytes = match random.below(20) {
-        18 | 19 => {
+    let bytes = match random.below(22) {
+        18..=21 => {
             asked.version = if random.percent(90) { 2 } else { 1 };
             asked.expression = any_share(random, sort, 0);
             asked.encoded().bytes

@@ -2,7 +2,7 @@
 
 use std::collections::BTreeMap;
 
-/// Names are counted as they come; `expected` lists the ones that a comparison must have seen.
+/// Names are counted as they come; a mode of the comparison lists those that it must have seen.
 #[derive(Clone, Default)]
 pub struct Seen {
     counts: BTreeMap<&'static str, u64>,
@@ -23,15 +23,9 @@ impl Seen {
         }
     }
 
-    /// The names that were counted and stand in none of the given lists.
-    pub fn others(&self, lists: &[&[&'static str]]) -> Vec<&'static str> {
-        let mut names = Vec::new();
-        for name in self.counts.keys() {
-            if !lists.iter().any(|list| list.contains(name)) {
-                names.push(*name);
-            }
-        }
-        names
+    /// The names that were counted.
+    pub fn names(&self) -> impl Iterator<Item = &'static str> + '_ {
+        self.counts.keys().copied()
     }
 }
 
