@@ -2,7 +2,7 @@
 
 use crate::make::Made;
 use crate::seen::{Seen, FAULTS, REFUSALS, RESULTS, STEPS};
-use crate::{convert, expand, make};
+use crate::{convert, expand, listing, make};
 use std::io::{Read, Write};
 use std::process::{Command, Stdio};
 use std::sync::atomic::{AtomicBool, AtomicU64, Ordering};
@@ -30,6 +30,19 @@ pub const MODES: &[Mode] = &[
         ],
     },
     Mode { name: "convert", make: convert::make, own: convert::program, wanted: &[("results", convert::SEEN)] },
+    Mode { name: "listing", make: listing::make, own: listing::program, wanted: &[("results", listing::SEEN)] },
+    Mode {
+        name: "circle",
+        make: listing::make,
+        own: listing::circle_program,
+        wanted: &[("results", listing::CIRCLE_SEEN)],
+    },
+    Mode {
+        name: "listed",
+        make: listing::make_table,
+        own: listing::table_program,
+        wanted: &[("results", listing::TABLE_SEEN)],
+    },
 ];
 
 pub struct Settings {

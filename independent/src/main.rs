@@ -9,6 +9,7 @@ mod encode;
 mod evaluator;
 mod expand;
 mod jobs;
+mod listing;
 mod make;
 mod random;
 mod seen;
@@ -27,10 +28,10 @@ const DEFAULT_COUNT: u64 = 20_000;
 
 const USAGE: &str = "usage:
   independent NAME                         standard input to standard output, as the program NAME:
-                                           expand, convert; for whole tables: conversions, edges, jobs
+                                           expand, convert, listing, circle; for whole tables: conversions, edges, jobs, listed
   independent make MODE SEED NUMBER        one input of a seed, to standard output
   independent compare MODE PROGRAM [--emulator CMD] [--seed S] [--count N] [--threads T] [--keep FILE]
-where MODE is expand or convert";
+where MODE is expand, convert, listing, circle or listed";
 
 /// Shared parts nest some thousands deep, and reading, building and dropping them goes down with them.
 const STACK: usize = 256 << 20;

@@ -459,7 +459,7 @@ fn damaged_question(random: &mut Random) -> (Vec<u8>, Vec<u8>) {
     let book = some_book(random);
     let mut asked = asked(random, &book);
     let Asked { version, sort, .. } = asked;
-    let bytes = match random.below(22) {
+    let bytes = match random.below(24) {
         18..=21 => {
             asked.version = if random.percent(90) { 2 } else { 1 };
             asked.expression = any_share(random, sort, 0);
@@ -486,7 +486,7 @@ fn damaged_question(random: &mut Random) -> (Vec<u8>, Vec<u8>) {
             damage_item(random, &mut part);
             encode::question_of(version, &part).bytes
         }
-        9 => {
+        9 | 22 | 23 => {
             // Over its size, or just not.
             let mut encoded = asked.encoded();
             const FULL: usize = QUESTION_BYTES;
