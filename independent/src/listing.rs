@@ -472,20 +472,29 @@ fn listing_by_chance(random: &mut Random) -> (&'static str, Vec<u8>, bool) {
         }
     };
     let mut draft = Draft { names: names(random, count), lines: vec![Vec::new(); count] };
-    // Mostly no circle: hops go to headings later in a row by chance.
+    // Hops go to headings later in a row by chance, so there is no circle; then rings close some.
     let mut order: Vec<usize> = (0..count).collect();
     random.shuffle(&mut order);
-    let circles = random.percent(45);
     let wrong = kind == "small" && random.percent(15);
+    let any = random.percent(10);
     for _ in 0..hops {
         let (mut from, mut to) = (random.below(count), random.below(count));
-        if !circles {
+        if !any {
             if from == to {
                 continue;
             }
             (from, to) = (from.min(to), from.max(to));
         }
         draft.hop(random, order[from], order[to], wrong);
+    }
+    if random.percent(40) {
+        for _ in 0..random.from(1, 3) {
+            random.shuffle(&mut order);
+            let length = random.from(1, 6).min(count);
+            for place in 0..length {
+                draft.hop(random, order[place], order[(place + 1) % length], wrong);
+            }
+        }
     }
     if kind == "about 16 broader terms" {
         let from = random.below(count);
