@@ -2,7 +2,7 @@
 
 use crate::make::Made;
 use crate::seen::{Seen, FAULTS, REFUSALS, RESULTS, STEPS};
-use crate::{convert, expand, listing, make};
+use crate::{convert, expand, figures, listing, make, writer};
 use std::io::{Read, Write};
 use std::process::{Command, Stdio};
 use std::sync::atomic::{AtomicBool, AtomicU64, Ordering};
@@ -43,6 +43,18 @@ pub const MODES: &[Mode] = &[
         own: listing::table_program,
         wanted: &[("results", listing::TABLE_SEEN)],
     },
+    Mode {
+        name: "writings",
+        make: writer::make_table,
+        own: writer::table_program,
+        wanted: &[("results", writer::SEEN)],
+    },
+    Mode {
+        name: "figured",
+        make: figures::make_table,
+        own: figures::table_program,
+        wanted: &[("results", figures::SEEN)],
+    },
 ];
 
 pub struct Settings {
@@ -54,6 +66,8 @@ pub struct Settings {
     pub threads: usize,
     /// Where the input of a difference is written.
     pub keep: String,
+    /// Goes on behind a difference, and counts them.
+    pub go_on: bool,
 }
 
 struct Difference {
@@ -119,7 +133,7 @@ pub fn compare(settings: &Settings) -> bool {
                         }
                         let program = program_text(&settings.command, &made.input);
                         if own != program {
-                            stop.store(true, Ordering::Relaxed);
+                            stop.store(!settings.go_on, Ordering::Relaxed);
                             let kind = made.kind;
                             let found = Difference { number, kind, input: made.input, own, program };
                             differences.lock().expect("no panic").push(found);
@@ -134,7 +148,17 @@ pub fn compare(settings: &Settings) -> bool {
     let mut differences = differences.into_inner().expect("no panic");
     differences.sort_by_key(|difference| difference.number);
     if let Some(difference) = differences.first() {
+        for other in differences.iter().skip(1).take(9) {
+            println!(
+                "input {}, made as {}: own {}, program {}",
+                other.number,
+                other.kind,
+                other.own.trim(),
+                other.program.trim()
+            );
+        }
         show(settings, difference);
+        println!("{} inputs differ", differences.len());
         return false;
     }
     report(settings, &seen.into_inner().expect("no panic"), &kinds.into_inner().expect("no panic"), started.elapsed())

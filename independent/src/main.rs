@@ -8,6 +8,7 @@ mod edges;
 mod encode;
 mod evaluator;
 mod expand;
+mod figures;
 mod jobs;
 mod listing;
 mod make;
@@ -20,6 +21,7 @@ mod special;
 mod text;
 #[cfg(test)]
 mod worked;
+mod writer;
 
 use std::io::{Read, Write};
 
@@ -28,10 +30,11 @@ const DEFAULT_COUNT: u64 = 20_000;
 
 const USAGE: &str = "usage:
   independent NAME                         standard input to standard output, as the program NAME:
-                                           expand, convert, listing, circle; for whole tables: conversions, edges, jobs, listed
+                                           expand, convert, listing, circle; for whole tables: conversions, edges,
+                                           jobs, listed, writings, figured
   independent make MODE SEED NUMBER        one input of a seed, to standard output
-  independent compare MODE PROGRAM [--emulator CMD] [--seed S] [--count N] [--threads T] [--keep FILE]
-where MODE is expand, convert, listing, circle or listed";
+  independent compare MODE PROGRAM [--emulator CMD] [--seed S] [--count N] [--threads T] [--keep FILE] [--go-on]
+where MODE is expand, convert, listing, circle, listed, writings or figured";
 
 /// Shared parts nest some thousands deep, and reading, building and dropping them goes down with them.
 const STACK: usize = 256 << 20;
@@ -86,8 +89,15 @@ fn number(word: &str) -> u64 {
 fn settings(mode: &'static compare::Mode, words: &[String]) -> compare::Settings {
     let threads = std::thread::available_parallelism().map_or(1, |count| count.get());
     let keep = std::env::temp_dir().join("independent-difference.bin").to_string_lossy().into_owned();
-    let mut settings =
-        compare::Settings { mode, command: Vec::new(), seed: DEFAULT_SEED, count: DEFAULT_COUNT, threads, keep };
+    let mut settings = compare::Settings {
+        mode,
+        command: Vec::new(),
+        seed: DEFAULT_SEED,
+        count: DEFAULT_COUNT,
+        threads,
+        keep,
+        go_on: false,
+    };
     let mut program = None;
     let mut rest = words.iter();
     while let Some(word) = rest.next() {
@@ -98,6 +108,7 @@ fn settings(mode: &'static compare::Mode, words: &[String]) -> compare::Settings
             "--count" => settings.count = number(&value()),
             "--threads" => settings.threads = number(&value()).max(1) as usize,
             "--keep" => settings.keep = value(),
+            "--go-on" => settings.go_on = true,
             _ if program.is_none() && !word.starts_with("--") => program = Some(word.clone()),
             _ => usage(),
         }
