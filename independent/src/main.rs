@@ -1,6 +1,7 @@
 //! An evaluator of document 01 that shares nothing with `crates/`, and a comparison of the two.
 //! README.md says how to run it.
 
+mod admissions;
 mod admit;
 mod compare;
 mod convert;
@@ -30,8 +31,8 @@ const DEFAULT_COUNT: u64 = 20_000;
 
 const USAGE: &str = "usage:
   independent NAME                         standard input to standard output, as the program NAME:
-                                           expand, convert, listing, circle; for whole tables: conversions, edges,
-                                           jobs, listed, writings, figured
+                                           expand, convert, listing, circle; for whole tables: admissions,
+                                           conversions, edges, jobs, listed, writings, figured
   independent make MODE SEED NUMBER        one input of a seed, to standard output
   independent compare MODE PROGRAM [--emulator CMD] [--seed S] [--count N] [--threads T] [--keep FILE] [--go-on]
 where MODE is expand, convert, listing, circle, listed, writings or figured";
@@ -64,6 +65,9 @@ fn command() {
         Some("compare") if words.len() >= 3 => {
             let settings = settings(mode(&words[1]), &words[2..]);
             std::process::exit(if compare::compare(&settings) { 0 } else { 1 });
+        }
+        Some("admissions") if words.len() == 1 => {
+            print!("{}", admissions::admissions(&given()).expect("a whole table"))
         }
         Some("edges") if words.len() == 1 => print!("{}", edges::edges(&given()).expect("a whole table")),
         Some("jobs") if words.len() == 1 => print!("{}", jobs::jobs(&given()).expect("a whole table")),
