@@ -97,7 +97,7 @@ impl<'a> Listing<'a> {
     }
 
     /// The BT headings of each heading, in listing order.
-    fn broader(&self) -> Vec<Vec<usize>> {
+    pub fn broader(&self) -> Vec<Vec<usize>> {
         let of = |heading: &Heading| {
             heading.tagged.iter().filter(|tagged| tagged.broader).map(|tagged| self.numbers[tagged.names]).collect()
         };

@@ -358,3 +358,133 @@ mod edition_2 {
         std::thread::Builder::new().stack_size(crate::STACK).spawn(worker).expect("a thread").join().expect("no panic");
     }
 }
+
+/// Requests L5, L6 and L9 against the evaluator itself, over inputs by chance.
+mod against_runs {
+    use super::*;
+    use crate::admit::{Book, Expression};
+    use crate::random::Random;
+    use crate::{convert, encode, listing, make, sorted};
+    use std::collections::BTreeSet;
+
+    /// L9: "both give the same results, answers and nodes for every question and fuel".
+    #[test]
+    fn a_converted_book_runs_alike() {
+        let mut exempt_steps = 0;
+        for number in 0..400 {
+            let random = &mut Random::new(9, number);
+            let book = make::some_book_of(random, 1);
+            let (sort, asked) = sorted::question(random, &book);
+            let old = encode::book(&book).bytes;
+            let new = convert::convert(&old, 32_768, &mut Seen::default()).expect("it fits");
+            let question = encode::question(1, sort, &asked).bytes;
+            let fuel = random.below(300) as u32;
+            let mut seen = Seen::default();
+            let (mut before, mut after) = (marked(300, 20, 1000), marked(300, 20, 1000));
+            let outcome = evaluate(&old, &question, fuel, &mut before, &mut seen);
+            assert_eq!(outcome, evaluate(&new, &question, fuel, &mut after, &mut Seen::default()));
+            assert_eq!(before, after);
+            exempt_steps += seen.count("exempt step");
+        }
+        assert!(exempt_steps > 10);
+    }
+
+    /// The symbols of the answers to an operation without arguments; None where the run did not finish.
+    fn values(book: &[u8], symbol: usize) -> Option<BTreeSet<usize>> {
+        let question = encode::question(1, 0, &Expression::Apply(symbol, vec![])).bytes;
+        let mut memory = Memory::sized(3200, 64, 16384);
+        let outcome = evaluate(book, &question, 10_000, &mut memory, &mut Seen::default());
+        let at = |place: usize| u16::from_be_bytes([memory.answers[place], memory.answers[place + 1]]) as usize;
+        let mut found = BTreeSet::new();
+        let mut place = 1;
+        for _ in 0..outcome.answers {
+            assert_eq!(at(place + 2), 1);
+            found.insert(at(place + 4));
+            place += 2 + at(place);
+        }
+        (outcome.number == 0).then_some(found)
+    }
+
+    /// L5: "the values the first can reach are exactly its BT headings, and the second's are those one or more BT hops up".
+    #[test]
+    fn a_listing_s_book_answers_with_its_terms() {
+        let mut finished = 0;
+        for number in 0..300 {
+            let made = listing::make(5, number);
+            let Ok(listing) = listing::Listing::read(&made.input) else { continue };
+            let Ok(book) = listing::book_of(&made.input, 32_768) else { continue };
+            let broader = listing.broader();
+            let count = broader.len();
+            if count > 20 {
+                continue;
+            }
+            for (heading, terms) in broader.iter().enumerate() {
+                let direct: BTreeSet<usize> = terms.iter().copied().collect();
+                let mut above = direct.clone();
+                for _ in 0..count {
+                    above = above
+                        .iter()
+                        .flat_map(|term| broader[*term].iter().copied())
+                        .chain(above.iter().copied())
+                        .collect();
+                }
+                assert_eq!(values(&book, count + heading), Some(direct));
+                if let Some(found) = values(&book, 2 * count + heading) {
+                    finished += 1;
+                    assert_eq!(found, above);
+                }
+            }
+        }
+        assert!(finished > 300, "{finished}");
+    }
+
+    /// L6 on small listings, by trying every row of headings.
+    #[test]
+    fn the_circle_is_the_first_of_the_shortest() {
+        let (mut circles, mut without) = (0, 0);
+        for number in 0..600 {
+            let made = listing::make(6, number);
+            let Ok((listing, saved)) = listing::saved(&made.input, 400) else { continue };
+            let broader = listing.broader();
+            if broader.len() > 6 {
+                continue;
+            }
+            let mut rows: Vec<Vec<usize>> = (0..broader.len()).map(|heading| vec![heading]).collect();
+            let mut first = None;
+            for _ in 0..broader.len() {
+                rows.sort();
+                let closed = |row: &&Vec<usize>| broader[row[row.len() - 1]].contains(&row[0]);
+                first = rows.iter().find(closed).cloned();
+                if first.is_some() {
+                    break;
+                }
+                let longer = |row: &Vec<usize>| -> Vec<Vec<usize>> {
+                    broader[row[row.len() - 1]].iter().map(|term| [&row[..], &[*term]].concat()).collect()
+                };
+                rows = rows.iter().flat_map(longer).collect::<BTreeSet<_>>().into_iter().collect();
+            }
+            match saved {
+                listing::Saved::Circle(circle) => {
+                    circles += 1;
+                    assert_eq!(Some(circle), first);
+                }
+                listing::Saved::Levels(levels) => {
+                    without += 1;
+                    assert_eq!(first, None);
+                    for (heading, terms) in broader.iter().enumerate() {
+                        assert_eq!(levels[heading], terms.iter().map(|term| 1 + levels[*term]).max().unwrap_or(0));
+                    }
+                }
+            }
+        }
+        assert!(circles > 50 && without > 50, "{circles} {without}");
+    }
+
+    #[test]
+    fn a_writer_s_book_is_the_one_read() {
+        for number in 0..200 {
+            let book: Book = make::some_book_of(&mut Random::new(1, number), 1);
+            assert!(crate::writer::writes_back(&book));
+        }
+    }
+}

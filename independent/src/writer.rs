@@ -275,6 +275,17 @@ fn expression_row(expression: &Expression, out: &mut Vec<u16>) {
     }
 }
 
+/// "writing what was read from an admitted book gives the same bytes".
+#[cfg(test)]
+pub fn writes_back(book: &Book) -> bool {
+    let (symbols, trees) = rows_of(book);
+    let numbers = |rows: &[Vec<u16>]| -> Vec<u16> {
+        rows.iter().flat_map(|row| std::iter::once(row.len() as u16).chain(row.iter().copied())).collect()
+    };
+    let written = write(&numbers(&symbols), &numbers(&trees), BOOK_BYTES, &mut Seen::default());
+    written == Ok(encode::book(book).bytes)
+}
+
 /// Equal rows as one block; some numbers of the last row may be missing.
 fn as_blocks(rows: &[Vec<u16>], missing: usize) -> Vec<u8> {
     let mut out = Vec::new();
