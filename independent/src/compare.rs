@@ -2,7 +2,7 @@
 
 use crate::make::Made;
 use crate::seen::{Seen, FAULTS, REFUSALS, RESULTS, STEPS};
-use crate::{convert, expand, figures, listing, make, writer};
+use crate::{convert, edges, expand, figures, listing, make, writer};
 use std::io::{Read, Write};
 use std::process::{Command, Stdio};
 use std::sync::atomic::{AtomicBool, AtomicU64, Ordering};
@@ -28,6 +28,12 @@ pub const MODES: &[Mode] = &[
             ("faults by what was met", FAULTS),
             ("refusals by what asked", REFUSALS),
         ],
+    },
+    Mode {
+        name: "edges",
+        make: edges::make,
+        own: edges::program,
+        wanted: &[("steps", STEPS), ("refusals by what asked", REFUSALS), ("refusals at loading", edges::SEEN)],
     },
     Mode { name: "convert", make: convert::make, own: convert::program, wanted: &[("results", convert::SEEN)] },
     Mode { name: "listing", make: listing::make, own: listing::program, wanted: &[("results", listing::SEEN)] },

@@ -35,7 +35,7 @@ const USAGE: &str = "usage:
                                            conversions, edges, jobs, listed, writings, figured
   independent make MODE SEED NUMBER        one input of a seed, to standard output
   independent compare MODE PROGRAM [--emulator CMD] [--seed S] [--count N] [--threads T] [--keep FILE] [--go-on]
-where MODE is expand, convert, listing, circle, listed, writings or figured";
+where MODE is expand, edges, convert, listing, circle, listed, writings or figured";
 
 /// Shared parts nest some thousands deep, and reading, building and dropping them goes down with them.
 const STACK: usize = 256 << 20;
@@ -69,7 +69,6 @@ fn command() {
         Some("admissions") if words.len() == 1 => {
             print!("{}", admissions::admissions(&given()).expect("a whole table"))
         }
-        Some("edges") if words.len() == 1 => print!("{}", edges::edges(&given()).expect("a whole table")),
         Some("jobs") if words.len() == 1 => print!("{}", jobs::jobs(&given()).expect("a whole table")),
         Some("conversions") if words.len() == 1 => print!("{}", convert::table(&given()).expect("a whole table")),
         Some(name) if words.len() == 1 => print!("{}", (mode(name).own)(&given(), &mut seen::Seen::default()).0),
