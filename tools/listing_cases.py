@@ -8,7 +8,8 @@ with those of 400 numbers that are not 43,690, which each is before.
 Beside each row stands what was worked out by hand from request L5 and L6: the refusal and its line, or the count of bytes and the levels or the circle.
 stdout is made by the independent evaluator (independent/, subcommand `listed`), never by the program; the script asserts that both agree.
 
-usage: tools/listing_cases.py [FOLDER]            (crates/listed, if none is named; builds the evaluator with cargo, writes both files)
+usage: tools/listing_cases.py [--short] [FOLDER]            (crates/listed, if none is named; builds the evaluator with cargo, writes both files)
+--short leaves out the listings of more than 8,000 bytes, which take a program long that goes through all lines for each.
 """
 import os
 import random
@@ -228,6 +229,8 @@ for k in range(45):
     case(f'by chance, {k}', text, None, None, room=chance.choice([32768, 32768, 60]), row=chance.choice([400, 400, 3]))
 
 # ---- the files
+if '--short' in sys.argv:
+    rows = [r for r in rows if len(r[1]) <= 8000]
 table = b''
 for what, given, book, saved, room, row in rows:
     table += room.to_bytes(2, 'big') + row.to_bytes(2, 'big') + len(given).to_bytes(4, 'big') + given
@@ -261,7 +264,8 @@ for k, (what, given, book, saved, room, row) in enumerate(rows):
         print(what, 'by hand  ' + hand_l, 'evaluator ' + l, 'by hand  ' + hand_o, 'evaluator ' + o, sep='\n')
 if wrong:
     sys.exit(f'{wrong} rows differ; nothing is written')
-folder = sys.argv[1] if len(sys.argv) > 1 else os.path.join(repository, 'crates', 'listed')
+folders = [word for word in sys.argv[1:] if word != '--short']
+folder = folders[0] if folders else os.path.join(repository, 'crates', 'listed')
 os.makedirs(folder, exist_ok=True)
 with open(os.path.join(folder, 'stdin'), 'wb') as f:
     f.write(table)
