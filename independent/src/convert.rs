@@ -108,10 +108,15 @@ pub const SEEN: &[&str] = &[
 /// An input of the program: mostly sound books of version 1, some that just fit when converted, some wrong ones.
 pub fn make(seed: u64, number: u64) -> Made {
     let random = &mut Random::new(seed, number);
-    let (kind, book) = match random.weighted(&[50, 15, 20, 5, 5]) {
+    let (kind, book) = match random.weighted(&[50, 15, 20, 5, 5, 2]) {
         0 => ("well-sorted", encode::book(&make::some_book_of(random, 1)).bytes),
         1 => ("about 32,768 bytes", about_full(random)),
         2 => ("damaged", make::damaged_book(random).0),
+        5 => {
+            let mut bytes = encode::book(&make::some_book_of(random, 1)).bytes;
+            bytes[0] = *random.pick(&[0, 3, 4, 255]);
+            ("another version", bytes)
+        }
         3 => ("version 2", encode::book(&make::some_book_of(random, 2)).bytes),
         _ => {
             let mut input = lengthy_bytes(&encode::book(&make::some_book_of(random, 1)).bytes);
