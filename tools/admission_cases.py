@@ -2,7 +2,8 @@
 """Writes crates/admissions/stdin and stdout: a table of books and questions, and what document 01 says of each.
 
 Each row: a label; a book and a question as bytes; the number and the place that document 01 gives (0 0: admitted), worked out by
-hand from its sections "The book and the question, as bytes" and "Numbers returned"; never read off the program.
+hand from its sections "The book and the question, as bytes" and "Numbers returned", and from requests L8 and L9 for version 2; never read off
+the program.
 The program prints number, place and label of each row.
 
 usage: tools/admission_cases.py            (writes both files)
@@ -33,13 +34,13 @@ def symbol(kind, sort, *arguments):
     return bytes([2 + len(arguments), kind, sort, *arguments])
 
 
-def book(symbols, items):
+def book(symbols, items, version=1):
     """A book of these symbols, and of one tree (bytes, its length added) for each operation."""
-    return b'\x01' + part(b''.join(symbols)) + part(b''.join(part(t) for t in items))
+    return bytes([version]) + part(b''.join(symbols)) + part(b''.join(part(t) for t in items))
 
 
-def asked(sort, expression):
-    return b'\x01' + part(bytes([sort]) + expression)
+def asked(sort, expression, version=1):
+    return bytes([version]) + part(bytes([sort]) + expression)
 
 
 def apply(f, *arguments):
@@ -51,6 +52,11 @@ def choice(a, b):
 
 
 FAIL = b'\x03'
+
+
+def share(sort, first, body):
+    """Request L8, code 4."""
+    return bytes([4, sort]) + first + body
 
 
 def var(x):
@@ -221,9 +227,116 @@ whole = book([symbol(0, 0)] + [symbol(1, 0)] * len(sizes), [rule_of(n) for n in 
 case('0 a book of 32,768 bytes', whole, asked(0, apply(1)), 0, 0)
 case('1 the same and one byte', whole + b'\x00', asked(0, apply(1)), 1, 0)
 
+# ---- version 2 (requests L8 and L9): a book of one operation without arguments has its tree at place 10, and the rule's expression at 11; a
+# question's expression stands at place 4
+F0, F1 = symbol(1, 0), symbol(1, 0, 0)
+
+
+def rule2(expression, *symbols):
+    """A book of version 2: the operation has this rule; other symbols stand behind it."""
+    return book([F0] + list(symbols), [b'\x01' + expression], 2)
+
+
+NONE = asked(0, FAIL)
+SMALL_2, D_2 = b'\x02' + SMALL[1:], b'\x02' + D[1:]
+case('0 both of version 2', SMALL_2, D_2, 0, 0)
+case('2 version 3 and a question of version 2', b'\x03' + SMALL[1:], D_2, 2, 0)
+case('12 version 0 behind a book of version 2', SMALL_2, b'\x00' + D[1:], 12, 0)
+case('0 a shared part in a book of version 2, the question of version 1', rule2(share(0, FAIL, var(0))), NONE, 0, 0)
+case('0 a shared part in a question of version 2, the book of version 1', SMALL, asked(0, share(0, apply(0), var(0)), 2), 0, 0)
+case('4 a shared part in a book of version 1, the question of version 2', book([F0], [b'\x01' + share(0, FAIL, var(0))]), asked(0, FAIL, 2), 4, 11)
+case('14 a shared part in a question of version 1, the book of version 2', SMALL_2, asked(0, share(0, apply(0), var(0))), 14, 4)
+case('4 code 4 in version 1, cut behind it: the code comes first', book([F0], [hx('01 04')]), NONE, 4, 11)
+case('4 expression code 5 in version 2', rule2(hx('05')), NONE, 4, 11)
+case('4 tree code 4 in version 2', book([F0], [hx('04 00 03 03')], 2), NONE, 4, 10)
+case('14 expression code 5 in version 2', SMALL, asked(0, hx('05'), 2), 14, 4)
+# L9: no exempt in version 2
+case('4 an exempt in version 2: its code', book([F0], [hx('00')], 2), NONE, 4, 10)
+case('0 the same in version 1', book([F0], [hx('00')]), asked(0, FAIL, 2), 0, 0)
+case('4 an exempt in version 2, a byte left over behind it', book([F0], [hx('00 07')], 2), NONE, 4, 10)
+case('4 an exempt in version 2, the second tree', book([F0, F0], [b'\x01' + FAIL, hx('00')], 2), NONE, 4, 3 + 6 + 2 + 4 + 2)
+case('4 an exempt in version 2, in a branch: its code', book([symbol(0, 0), symbol(0, 0), F1], [hx('0200 0103 00')], 2), NONE, 4, 3 + 10 + 2 + 2 + 4)
+case('4 an exempt in version 2, before what is wrong behind it',
+     book([symbol(0, 0), symbol(0, 0), F1], [hx('0200 00 09')], 2), NONE, 4, 3 + 10 + 2 + 2 + 2)
+case('3 a bad symbol before an exempt in version 2', book([symbol(2, 0), F0], [hx('00')], 2), NONE, 3, 4)
+# L8: the order at a code 4: known in this version, 33rd variable, sort byte missing, sort byte above 63, the first, the body
+case('1 no sort byte: the item\'s end', rule2(hx('04')), NONE, 1, 12)
+case('3 sort byte 64', rule2(share(64, FAIL, FAIL)), NONE, 3, 12)
+case('0 sort byte 63', rule2(share(63, FAIL, FAIL)), NONE, 0, 0)
+case('3 sort byte 255, and nothing behind it', rule2(hx('04 FF')), NONE, 3, 12)
+case('1 no first: the item\'s end', rule2(hx('04 00')), NONE, 1, 13)
+case('1 no body: the item\'s end', rule2(hx('04 00 03')), NONE, 1, 14)
+case('1 a byte left over behind the body', rule2(share(0, FAIL, FAIL) + b'\x07'), NONE, 1, 15)
+case('5 the first has another sort: its code', rule2(share(1, apply(1), FAIL), symbol(0, 0)), NONE, 5, 3 + 6 + 2 + 2 + 1 + 2)
+case('0 the first has the sort of the byte', rule2(share(1, apply(1), FAIL), symbol(0, 1)), NONE, 0, 0)
+case('5 the body has another sort: its code', rule2(share(1, apply(1), apply(1)), symbol(0, 1)), NONE, 5, 3 + 6 + 2 + 2 + 1 + 2 + 3)
+case('5 the variable has the sort of the byte: the variable\'s code', rule2(share(1, FAIL, var(0))), NONE, 5, 14)
+case('4 a fault in the first before one in the body', rule2(share(0, hx('05'), hx('05'))), NONE, 4, 13)
+case('4 the first does not see its variable', rule2(share(0, var(0), FAIL)), NONE, 4, 14)
+case('4 the variable is there in the body only', rule2(choice(share(0, FAIL, var(0)), var(0))), NONE, 4, 18)
+case('0 in a first the number is free again', rule2(share(0, share(0, FAIL, var(0)), var(0))), NONE, 0, 0)
+case('0 a body in a body takes the next number', rule2(share(0, FAIL, share(1, FAIL, var(0)))), NONE, 0, 0)
+case('5 a body in a body: variable 1 has the inner sort', rule2(share(0, FAIL, share(1, FAIL, var(1)))), NONE, 5, 11 + 3 + 3)
+case('0 arguments come first: the first is variable 1', book([F1], [b'\x01' + share(1, FAIL, var(0))], 2), NONE, 0, 0)
+case('5 arguments come first: variable 1 is of the byte\'s sort', book([F1], [b'\x01' + share(1, FAIL, var(1))], 2), NONE, 5, 3 + 4 + 2 + 2 + 1 + 3)
+case('0 a branch\'s variables come first', book([symbol(0, 1, 2), symbol(1, 0, 1)], [hx('0200 01') + share(0, FAIL, var(2))], 2), NONE, 0, 0)
+case('4 variable 3 behind a branch\'s and a first', book([symbol(0, 1, 2), symbol(1, 0, 1)], [hx('0200 01') + share(0, FAIL, var(3))], 2), NONE, 4,
+     3 + 8 + 2 + 2 + 3 + 3 + 1)
+# 32 variables
+bodies = hx('040003')  # a first that is a fail, before its body
+case('0 32 variables, all firsts', rule2(bodies * 32 + var(31)), NONE, 0, 0)
+case('4 variable 32 of 32', rule2(bodies * 32 + var(32)), NONE, 4, 11 + 96 + 1)
+case('4 the 33rd variable: its code', rule2(bodies * 33 + var(0)), NONE, 4, 11 + 96)
+case('4 the 33rd variable, before its sort byte is missed', rule2(bodies * 32 + hx('04')), NONE, 4, 11 + 96)
+case('4 the 33rd variable, before its sort byte 64', rule2(bodies * 32 + share(64, FAIL, FAIL)), NONE, 4, 11 + 96)
+case('4 a 33rd variable in a choice', rule2(bodies * 32 + choice(var(0), share(0, FAIL, FAIL))), NONE, 4, 11 + 96 + 3)
+case('4 a 33rd variable in a first, where 32 are in scope', rule2(bodies * 31 + share(0, FAIL, share(0, share(0, FAIL, FAIL), FAIL))), NONE, 4, 11 + 93 + 3)
+case('0 a first in the 32nd first: there 31 are in scope', rule2(bodies * 31 + share(0, share(0, FAIL, var(31)), var(31))), NONE, 0, 0)
+eight_more = symbol(1, 0, *[0] * 8)
+case('0 eight arguments and 24 firsts', book([eight_more], [b'\x01' + bodies * 24 + var(31)], 2), NONE, 0, 0)
+case('4 eight arguments and a 25th first', book([eight_more], [b'\x01' + bodies * 25 + var(31)], 2), NONE, 4, 3 + 11 + 2 + 2 + 1 + 72)
+case('4 32 variables on a path and a first', book(binder + [symbol(1, 0, *eight)], [hx('02 00 02 01 02 02 01') + share(0, FAIL, FAIL)], 2), NONE, 4, free + 7)
+case('0 32 variables on a path, no first', book(binder + [symbol(1, 0, *eight)], [hx('02 00 02 01 02 02 01') + FAIL], 2), NONE, 0, 0)
+# 64 nodes: a code 4 is none, the first's count
+case('0 64 nodes and 16 codes 4', rule2(hx('0400') * 16 + apply(1, leaves(32)) + var(0) * 16, symbol(0, 0, 0)), NONE, 0, 0)
+case('4 the 65th node in a body', rule2(share(0, leaves(32), choice(FAIL, var(0)))), NONE, 4, 11 + 2 + 63 + 1)
+case('4 the 65th node in a first', rule2(share(0, apply(1, apply(1, leaves(32))), var(0)), symbol(0, 0, 0)), NONE, 4, 3 + 7 + 2 + 2 + 1 + 2 + 6 + 62)
+case('0 63 nodes in a first, one in the body', rule2(share(0, leaves(32), FAIL)), NONE, 0, 0)
+# the same in a question
+case('11 no sort byte', SMALL, asked(0, hx('04'), 2), 11, 5)
+case('13 sort byte 64', SMALL, asked(0, share(64, FAIL, FAIL), 2), 13, 5)
+case('0 sort byte 63', SMALL, asked(0, share(63, FAIL, FAIL), 2), 0, 0)
+case('11 no body', SMALL, asked(0, hx('04 00 03'), 2), 11, 7)
+case('11 left over behind the body', SMALL, asked(0, share(0, FAIL, FAIL) + b'\x03', 2), 11, 8)
+case('15 the first has another sort', SMALL, asked(0, share(1, apply(0), FAIL), 2), 15, 6)
+case('15 the variable has another sort', SMALL, asked(0, share(1, FAIL, var(0)), 2), 15, 7)
+case('14 the first does not see its variable', SMALL, asked(0, share(0, var(0), FAIL), 2), 14, 7)
+case('14 the variable is there in the body only', SMALL, asked(0, choice(share(0, FAIL, var(0)), var(0)), 2), 14, 11)
+case('0 32 variables', SMALL, asked(0, bodies * 32 + var(31), 2), 0, 0)
+case('14 the 33rd variable', SMALL, asked(0, bodies * 33 + var(0), 2), 14, 4 + 96)
+case('14 the 33rd variable, before its sort byte is missed', SMALL, asked(0, bodies * 32 + hx('04'), 2), 14, 4 + 96)
+case('14 the 65th node in a body', SMALL, asked(0, share(0, leaves(32), choice(FAIL, var(0))), 2), 14, 4 + 2 + 63 + 1)
+case('4 a bad book before a bad question, both of version 2', rule2(hx('05')), asked(0, hx('05'), 2), 4, 11)
+
+
+# Firsts in firsts, as deep as they are admitted: two bytes before each and a body behind it, which is a fail (one byte, a node) 63 times and else a
+# lone variable (two bytes). The bottom is a fail. A book has 11 bytes before, a question 4.
+def firsts(count, bottom=FAIL):
+    return b'\x04\x00' * count + bottom + FAIL * min(count, 63) + var(0) * (count - min(count, 63))
+
+
+assert len(rule2(firsts(8204))) == 32765 and len(asked(0, firsts(1038), 2)) == 4094
+case('0 8,204 firsts in firsts in a book', rule2(firsts(8204)), NONE, 0, 0)
+case('1 one more: over its size', rule2(firsts(8205)), NONE, 1, 0)
+case('4 the lowest of 8,000 firsts is a variable that is not there', rule2(firsts(8000, var(0))), NONE, 4, 11 + 16000 + 1)
+case('0 1,038 firsts in firsts in a question', SMALL, asked(0, firsts(1038), 2), 0, 0)
+case('11 one more: over its size', SMALL, asked(0, firsts(1039), 2), 11, 0)
+case('14 the lowest of 1,000 firsts is a variable that is not there', SMALL, asked(0, firsts(1000, var(0)), 2), 14, 4 + 2000 + 1)
+
 with open(os.path.join(top, 'stdin'), 'wb') as f:
     for label, b, q, number, place in rows:
         f.write(two(len(label)) + label.encode() + two(len(b)) + b + two(len(q)) + q)
+    assert f.tell() <= 262144
 with open(os.path.join(top, 'stdout'), 'w') as f:
     for label, b, q, number, place in rows:
         f.write(f'{number} {place} {label}\n')

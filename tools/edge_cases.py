@@ -65,12 +65,12 @@ def operation(arguments=0):
     return symbol(1, *[0] * arguments)
 
 
-def book(symbols, trees):
-    return b'\x01' + part(b''.join(symbols)) + part(b''.join(part(t) for t in trees))
+def book(symbols, trees, version=1):
+    return bytes([version]) + part(b''.join(symbols)) + part(b''.join(part(t) for t in trees))
 
 
-def asked(expression):
-    return b'\x01' + part(b'\x00' + expression)
+def asked(expression, version=1):
+    return bytes([version]) + part(b'\x00' + expression)
 
 
 def apply(f, *arguments):
@@ -82,6 +82,11 @@ def choice(a, b):
 
 
 FAIL = b'\x03'
+
+
+def share(first, body):
+    """Request L8: a shared part of sort 0."""
+    return b'\x04\x00' + first + body
 
 
 def var(x):
@@ -506,6 +511,131 @@ case('a pair of two choices: the leftmost is pulled up', (20, 0, 1, 0, 9, 2, 1),
 case('a fail 256 arrows down: the first look adds no arrival', (0, 0, 6, 0, 257, 0, 0),
      Left(chained([n_apply(S, 1)] + [None] * 5 + [N_FAIL], 1, [51] * 5), [], answers()),
      VALUES, asked(apply(S, times(F51, 5, FAIL))))
+
+# ---- change request L8: shared parts. Z, S of one and P of two as above (symbols 0 to 2); the operations of the book stand behind
+def later(*trees, arguments=0):
+    """A book of version 2 with operations of so many arguments from symbol 3 on."""
+    return book([constructor(), constructor(1), constructor(2)] + [operation(arguments)] * len(trees), list(trees), 2)
+
+
+PLAIN = later()
+NEW = 3
+ZERO, ONE_S = apply(Z), apply(S, apply(Z))
+# D again: book and question have versions of their own
+SMALL_2, D_2 = b'\x02' + SMALL[1:], b'\x02' + D[1:]
+case('D, the book of version 2', d_done, d_after(10), SMALL_2, D, fuel=10)
+case('D, the question of version 2', d_done, d_after(10), SMALL, D_2, fuel=10)
+case('D, both of version 2, fuel 9', (20, 0, 9, 1, 8, 1, 1), d_after(9), SMALL_2, D_2, fuel=9)
+case('a shared part in a question of version 1: nothing touched', (14, 4, 0, 0, 0, 0, 0), None, PLAIN, asked(share(ZERO, var(0))))
+# In a question the body's top is the root; for a lone variable, the node it stands for.
+case('let x = Z in x: the root is node 0', (0, 0, 1, 1, 1, 0, 0), Left([n_apply(Z)], [], answers(record([Z], {}))), PLAIN, asked(share(ZERO, var(0)), 2))
+two_firsts = [n_apply(Z), n_apply(S, 2), n_apply(Z)]
+case('let x = Z in let y = S Z in y: the root is node 1', (20, 0, 0, 0, 3, 0, 1), Left(two_firsts, [(1, {})], answers()),
+     PLAIN, asked(share(ZERO, share(ONE_S, var(1))), 2), fuel=0)
+case('let x = Z in let y = S Z in x: the root is node 0', (20, 0, 0, 0, 3, 0, 1), Left(two_firsts, [(0, {})], answers()),
+     PLAIN, asked(share(ZERO, share(ONE_S, var(0))), 2), fuel=0)
+case('let x = Z in let y = S x in P y x: the root is node 2', (0, 0, 1, 1, 3, 0, 0),
+     Left([n_apply(Z), n_apply(S, 0), n_apply(P, 1, 0)], [], answers(record([P, S, Z, Z], {}))),
+     PLAIN, asked(share(ZERO, share(apply(S, var(0)), apply(P, var(1), var(0)))), 2))
+case('S of let x = Z in x: a lone variable elsewhere stands for its arrow', (0, 0, 1, 1, 2, 0, 0),
+     Left([n_apply(S, 1), n_apply(Z)], [], answers(record([S, Z], {}))), PLAIN, asked(apply(S, share(ZERO, var(0))), 2))
+case('a first in a first', (0, 0, 1, 1, 3, 0, 0),
+     Left([n_apply(Z), n_apply(S, 0), n_apply(P, 1, 1)], [], answers(record([P, S, Z, S, Z], {}))),
+     PLAIN, asked(share(share(ZERO, apply(S, var(0))), apply(P, var(0), var(0))), 2))
+case('32 variables in a question: the root is node 31', (0, 0, 1, 1, 32, 0, 0),
+     Left([n_apply(Z)] * 32, [], answers(record([Z], {}))), PLAIN, asked((b'\x04\x00' + ZERO) * 32 + var(31), 2))
+case('a 33rd variable: nothing touched', (14, 4 + 32 * 5, 0, 0, 0, 0, 0), None, PLAIN, asked((b'\x04\x00' + ZERO) * 33 + var(31), 2))
+case('a first that is not used needs its nodes: 3 of 3', (0, 0, 1, 1, 3, 0, 0), Left([n_apply(S, 1), n_apply(Z), n_apply(Z)], [], answers(record([Z], {}))),
+     PLAIN, asked(share(ONE_S, ZERO), 2), numbers=30)
+case('a first that is not used needs its nodes: 2 of 3', (21, 0, 0, 0, 0, 0, 0), None, PLAIN, asked(share(ONE_S, ZERO), 2), numbers=20)
+
+
+def one_way(root, first):
+    """P x x, where x is a choice of Z and S Z: it is pulled up once for each user, and each entry takes it one way for both. The choice node's
+    number is `first`, its Z and S right behind it, the nodes made in the run from `root` and `first` on."""
+    c, z, s = first, first + 1, first + 2
+    n = max(root, first + 3) + 1
+    nodes = {c: n_choice(0, z, s), z: n_apply(Z), s: n_apply(S, s + 1), s + 1: n_apply(Z),
+             root: n_choice(0, n, n + 1),             # first turn: pulled up at the first user; second: the split
+             n: n_choice(0, n + 2, n + 3),            # third turn: P Z x is pulled up at the second user
+             n + 1: n_choice(0, n + 4, n + 5),        # fourth turn: P (S Z) x
+             n + 2: n_apply(P, z, z), n + 3: n_apply(P, z, s), n + 4: n_apply(P, s, z), n + 5: n_apply(P, s, s)}
+    return Left([nodes[k] for k in range(n + 6)], [], answers(record([P, Z, Z], {0: LEFT}), record([P, S, Z, S, Z], {0: RIGHT})))
+
+
+# Two turns more find the choice decided, two write.
+EITHER, TWICE = choice(ZERO, ONE_S), apply(P, var(0), var(0))
+case('a shared choice taken one way by two users', (0, 0, 8, 2, 11, 1, 0), one_way(4, 0), PLAIN, asked(share(EITHER, TWICE), 2))
+# The same by a rule: the first's nodes are fresh and made first, the body's top takes the old place.
+case('the same by a rule: the body\'s top takes the old place', (0, 0, 9, 2, 11, 1, 0), one_way(0, 1), later(rule(share(EITHER, TWICE))), asked(apply(NEW)))
+case('the same by a rule, one turn', (20, 0, 1, 0, 5, 1, 1),
+     Left([n_apply(P, 1, 1), n_choice(0, 2, 3), n_apply(Z), n_apply(S, 4), n_apply(Z)], [(0, {})], answers()),
+     later(rule(share(EITHER, TWICE))), asked(apply(NEW)), fuel=1)
+# A lone variable on top makes a forward to a fresh node, so one is needed.
+forward = later(rule(share(ZERO, var(0))))
+case('a rule that is let x = Z in x: a forward', (0, 0, 2, 1, 2, 0, 0), Left([n_forward(1), n_apply(Z)], [], answers(record([Z], {}))),
+     forward, asked(apply(NEW)), numbers=20)
+case('a rule that is let x = Z in x, no node left', (21, 0, 0, 0, 1, 0, 1), Left([n_apply(NEW)], [(0, {})], answers()),
+     forward, asked(apply(NEW)), numbers=10)
+# One argument: a first that is a variable stands for the arrow as stored.
+case('let x = the argument in P x x', (0, 0, 2, 1, 2, 0, 0), Left([n_apply(P, 1, 1), n_apply(Z)], [], answers(record([P, Z, Z], {}))),
+     later(rule(share(var(0), apply(P, var(1), var(1)))), arguments=1), asked(apply(NEW, ZERO)), numbers=20)
+case('let x = the argument in x: a forward without a fresh node', (0, 0, 2, 1, 2, 0, 0), Left([n_forward(1), n_apply(Z)], [], answers(record([Z], {}))),
+     later(rule(share(var(0), var(1))), arguments=1), asked(apply(NEW, ZERO)), numbers=20)
+case('let x = S of the argument in the argument: a forward past a fresh node', (0, 0, 2, 1, 3, 0, 0),
+     Left([n_forward(1), n_apply(Z), n_apply(S, 1)], [], answers(record([Z], {}))),
+     later(rule(share(apply(S, var(0)), var(0))), arguments=1), asked(apply(NEW, ZERO)))
+# A first that the body does not use: its nodes are made all the same, before the body's.
+unused = later(rule(share(apply(P, ZERO, ZERO), ONE_S)))
+case('a first that the body does not use', (0, 0, 2, 1, 5, 0, 0),
+     Left([n_apply(S, 4), n_apply(P, 2, 3), n_apply(Z), n_apply(Z), n_apply(Z)], [], answers(record([S, Z], {}))),
+     unused, asked(apply(NEW)), numbers=50)
+case('a first that the body does not use, one node short', (21, 0, 0, 0, 1, 0, 1), Left([n_apply(NEW)], [(0, {})], answers()),
+     unused, asked(apply(NEW)), numbers=40)
+case('its choices are numbered before the body\'s', (0, 0, 4, 2, 7, 2, 0),
+     Left([n_choice(1, 4, 5), n_choice(0, 2, 3), n_apply(Z), n_apply(Z), n_apply(Z), n_apply(S, 6), n_apply(Z)], [],
+          answers(record([Z], {1: LEFT}), record([S, Z], {1: RIGHT}))),
+     later(rule(share(choice(ZERO, ZERO), EITHER))), asked(apply(NEW)))
+# c(x) = let y = (eight choices of fails) in x takes eight choices and 17 nodes that nobody uses, and makes a forward.
+eight = FAIL
+for _ in range(8):
+    eight = choice(FAIL, eight)
+taker = later(rule(share(eight, var(0))), arguments=1)
+
+
+def taken(calls, rewritten):
+    """The nodes of so many calls on Z, so many of them rewritten."""
+    nodes = [n_forward(i + 1) if i < rewritten else n_apply(NEW, i + 1) for i in range(calls)] + [n_apply(Z)]
+    for i in range(rewritten):
+        at = len(nodes)
+        for j in range(8):
+            nodes += [n_choice(8 * i + j, at + 2 * j + 1, at + 2 * j + 2), N_FAIL]
+        nodes.append(N_FAIL)
+    return nodes
+
+
+assert len(taken(32, 32)) == 33 + 32 * 17 == 577
+case('256 choices in firsts that are not used', (0, 0, 33, 1, 577, 256, 0), Left(taken(32, 32), [], answers(record([Z], {}))),
+     taker, asked(times(NEW, 32, ZERO)), numbers=5770)
+case('the 257th choice in a first that is not used', (22, 0, 32, 0, 578, 256, 1), Left(taken(33, 32), [(0, {})], answers()),
+     taker, asked(times(NEW, 33, ZERO)), numbers=5950)
+case('the 257th choice in a first, one node short: 21 comes before 22', (21, 0, 32, 0, 578, 256, 1), Left(taken(33, 32), [(0, {})], answers()),
+     taker, asked(times(NEW, 33, ZERO)), numbers=5940)
+
+
+# Firsts in firsts: each level is two bytes before and a lone variable behind. A question has 4 bytes before its expression; the book below 23 before
+# its rule's, of which the code is one.
+def nested_firsts(count):
+    return b'\x04\x00' * count + ZERO + var(0) * count
+
+
+assert len(asked(nested_firsts(1022), 2)) == 4095
+case('1,022 firsts in firsts in a question', (0, 0, 1, 1, 1, 0, 0), Left([n_apply(Z)], [], answers(record([Z], {}))),
+     PLAIN, asked(nested_firsts(1022), 2))
+deep_rule = later(rule(nested_firsts(8185)))
+assert len(deep_rule) == 32766
+case('8,185 firsts in firsts in a rule: a forward', (0, 0, 2, 1, 2, 0, 0), Left([n_forward(1), n_apply(Z)], [], answers(record([Z], {}))),
+     deep_rule, asked(apply(NEW)), numbers=20)
 
 # ---- the archive's example, with the fuel that its file has; README.md says what its six answers mean
 dolly = open(os.path.join(repository, 'examples', 'corn-dollies'), 'rb').read()

@@ -1,4 +1,4 @@
-//! Admission: "The book and the question, as bytes" and numbers 1 to 5 and 11 to 15.
+//! Admission: "The book and the question, as bytes" and numbers 1 to 5 and 11 to 15, with requests L8 and L9.
 //!
 //! Bytes are read front to back; the first fault met is given.
 
@@ -19,16 +19,19 @@ pub enum Expression {
     Apply(usize, Vec<Expression>),
     Choice(Box<Expression>, Box<Expression>),
     Fail,
+    /// Request L8, code 4: a sort, the first of that sort, and the body in which it takes the next free variable number.
+    Share(u8, Box<Expression>, Box<Expression>),
 }
 
 impl Expression {
-    /// "64 nodes in one expression (variables don't count)".
+    /// "64 nodes in one expression (variables don't count)". A code 4 is no node either.
     pub fn nodes(&self) -> usize {
         match self {
             Expression::Variable(_) => 0,
             Expression::Apply(_, row) => 1 + row.iter().map(Expression::nodes).sum::<usize>(),
             Expression::Choice(left, right) => 1 + left.nodes() + right.nodes(),
             Expression::Fail => 1,
+            Expression::Share(_, first, body) => first.nodes() + body.nodes(),
         }
     }
 
@@ -37,6 +40,15 @@ impl Expression {
             Expression::Variable(_) | Expression::Fail => 0,
             Expression::Apply(_, row) => row.iter().map(Expression::choices).sum(),
             Expression::Choice(left, right) => 1 + left.choices() + right.choices(),
+            Expression::Share(_, first, body) => first.choices() + body.choices(),
+        }
+    }
+
+    /// What stands on top: under a code 4, its body's.
+    pub fn top(&self) -> &Expression {
+        match self {
+            Expression::Share(_, _, body) => body.top(),
+            other => other,
         }
     }
 }
@@ -60,12 +72,19 @@ pub struct Symbol {
     pub rank: usize,
 }
 
-#[derive(Clone, Debug, Default)]
+#[derive(Clone, Debug)]
 pub struct Book {
+    /// The version byte, 1 or 2.
+    pub version: u8,
     pub symbols: Vec<Symbol>,
 }
 
 impl Book {
+    /// A book of version 1.
+    pub fn of(symbols: Vec<Symbol>) -> Book {
+        Book { version: 1, symbols }
+    }
+
     /// The constructors of a sort, in symbol order.
     fn constructors(&self, sort: u8) -> Vec<usize> {
         let fits = |n: &usize| !self.symbols[*n].operation && self.symbols[*n].sort == sort;
@@ -75,7 +94,7 @@ impl Book {
 
 #[derive(Clone, Debug)]
 pub struct Question {
-    pub top: Expression,
+    pub expression: Expression,
 }
 
 /// Which of the two is read: fixes the numbers, and the names for counting.
@@ -107,11 +126,22 @@ struct Reader<'a> {
     at: usize,
     end: usize,
     reading: Reading,
+    /// The version byte of these bytes, once it is read.
+    version: u8,
 }
 
 impl<'a> Reader<'a> {
     fn over(bytes: &'a [u8], reading: Reading) -> Reader<'a> {
-        Reader { bytes, at: 0, end: bytes.len(), reading }
+        Reader { bytes, at: 0, end: bytes.len(), reading, version: 0 }
+    }
+
+    /// Request L8: "2 and 12 now mean neither 1 nor 2". Book and question have versions of their own.
+    fn version(&mut self) -> Result<(), Fault> {
+        self.version = self.byte()?;
+        if self.version != 1 && self.version != 2 {
+            return self.reading.fault(2, 0, "version");
+        }
+        Ok(())
     }
 
     /// "a needed byte lies past its part or item (place: that end)".
@@ -157,15 +187,13 @@ pub fn book(bytes: &[u8]) -> Result<Book, Fault> {
         return InBook.fault(1, 0, "over its size");
     }
     let mut whole = Reader::over(bytes, InBook);
-    if whole.byte()? != 1 {
-        return InBook.fault(2, 0, "version");
-    }
+    whole.version()?;
     let length_place = whole.at;
     let symbol_part = whole.part()?;
     if symbol_part.at == symbol_part.end {
         return InBook.fault(3, length_place, "no symbols");
     }
-    let mut book = Book { symbols: symbols(symbol_part)? };
+    let mut book = Book { version: whole.version, symbols: symbols(symbol_part)? };
     let mut tree_part = whole.part()?;
     for number in 0..book.symbols.len() {
         if book.symbols[number].operation {
@@ -223,6 +251,8 @@ fn symbols(mut part: Reader) -> Result<Vec<Symbol>, Fault> {
 fn tree(book: &Book, item: &mut Reader, sort: u8, variables: &[u8], branched: &[bool]) -> Result<Tree, Fault> {
     let place = item.at;
     match item.byte()? {
+        // Request L9: "Version 2 books with tree code 0 are refused."
+        0 if item.version == 2 => InBook.fault(4, place, "exempt in version 2"),
         0 => Ok(Tree::Exempt),
         1 => {
             // "a rule has its operation's result sort".
@@ -273,11 +303,15 @@ fn expression(
     let reading = item.reading;
     let code_place = item.at;
     let code = item.byte()?;
-    if code > 3 {
+    // "code 4 in version 1 stays 4 or 14".
+    if code == 4 && item.version == 1 {
+        return reading.fault(4, code_place, "code 4 in version 1");
+    }
+    if code > 4 {
         return reading.fault(4, code_place, "expression code");
     }
     // "65th node (place: its code)"; "variables don't count".
-    if code != 0 {
+    if code != 0 && code != 4 {
         *nodes += 1;
         if *nodes > EXPRESSION_NODES {
             return reading.fault(4, code_place, "65th node");
@@ -317,7 +351,24 @@ fn expression(
             let right = expression(book, item, sort, variables, nodes)?;
             Ok(Expression::Choice(Box::new(left), Box::new(right)))
         }
-        _ => Ok(Expression::Fail), // "A fail fits every sort".
+        3 => Ok(Expression::Fail), // "A fail fits every sort".
+        _ => {
+            // "a 33rd variable is 4 or 14 at its code".
+            if variables.len() == VARIABLES {
+                return reading.fault(4, code_place, "33rd variable");
+            }
+            let place = item.at;
+            let first_sort = item.byte()?;
+            if first_sort > HIGHEST_SORT {
+                return reading.fault(3, place, "sort of a shared part");
+            }
+            let first = expression(book, item, first_sort, variables, nodes)?;
+            // "the body, in which the first takes the next free variable number, there only".
+            let mut more = variables.to_vec();
+            more.push(first_sort);
+            let body = expression(book, item, sort, &more, nodes)?;
+            Ok(Expression::Share(first_sort, Box::new(first), Box::new(body)))
+        }
     }
 }
 
@@ -327,9 +378,7 @@ pub fn question(book: &Book, bytes: &[u8]) -> Result<Question, Fault> {
         return InQuestion.fault(1, 0, "over its size");
     }
     let mut whole = Reader::over(bytes, InQuestion);
-    if whole.byte()? != 1 {
-        return InQuestion.fault(2, 0, "version");
-    }
+    whole.version()?;
     let mut part = whole.part()?;
     let place = part.at;
     let sort = part.byte()?;
@@ -338,10 +387,10 @@ pub fn question(book: &Book, bytes: &[u8]) -> Result<Question, Fault> {
     }
     // "one expression of that sort with no variables bound".
     let mut nodes = 0;
-    let top = expression(book, &mut part, sort, &[], &mut nodes)?;
+    let expression = expression(book, &mut part, sort, &[], &mut nodes)?;
     part.finish()?;
     whole.finish()?;
-    Ok(Question { top })
+    Ok(Question { expression })
 }
 
 /// Both, "Book before question".

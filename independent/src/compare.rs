@@ -1,14 +1,70 @@
-//! Feeds inputs to the program `expand` and to the own evaluator, and compares the whole output text.
+//! Feeds inputs to a proved program and to the own evaluator, and compares the whole output text.
 
-use crate::expand::expand;
-use crate::make::make;
+use crate::make::Made;
 use crate::seen::{Seen, FAULTS, REFUSALS, RESULTS, STEPS};
+use crate::{convert, edges, expand, figures, listing, make, writer};
 use std::io::{Read, Write};
 use std::process::{Command, Stdio};
 use std::sync::atomic::{AtomicBool, AtomicU64, Ordering};
 use std::sync::Mutex;
 
+/// One program to compare with: how its inputs are made, what is own output for one (with the result's number, where there is one),
+/// and the names that must be seen often enough.
+pub struct Mode {
+    pub name: &'static str,
+    pub make: fn(u64, u64) -> Made,
+    pub own: fn(&[u8], &mut Seen) -> (String, Option<u8>),
+    pub wanted: &'static [(&'static str, &'static [&'static str])],
+}
+
+pub const MODES: &[Mode] = &[
+    Mode {
+        name: "expand",
+        make: make::make,
+        own: expand::expand,
+        wanted: &[
+            ("steps", STEPS),
+            ("results", RESULTS),
+            ("faults by what was met", FAULTS),
+            ("refusals by what asked", REFUSALS),
+        ],
+    },
+    Mode {
+        name: "edges",
+        make: edges::make,
+        own: edges::program,
+        wanted: &[("steps", STEPS), ("refusals by what asked", REFUSALS), ("refusals at loading", edges::SEEN)],
+    },
+    Mode { name: "convert", make: convert::make, own: convert::program, wanted: &[("results", convert::SEEN)] },
+    Mode { name: "listing", make: listing::make, own: listing::program, wanted: &[("results", listing::SEEN)] },
+    Mode {
+        name: "circle",
+        make: listing::make,
+        own: listing::circle_program,
+        wanted: &[("results", listing::CIRCLE_SEEN)],
+    },
+    Mode {
+        name: "listed",
+        make: listing::make_table,
+        own: listing::table_program,
+        wanted: &[("results", listing::TABLE_SEEN)],
+    },
+    Mode {
+        name: "writings",
+        make: writer::make_table,
+        own: writer::table_program,
+        wanted: &[("results", writer::SEEN)],
+    },
+    Mode {
+        name: "figured",
+        make: figures::make_table,
+        own: figures::table_program,
+        wanted: &[("results", figures::SEEN)],
+    },
+];
+
 pub struct Settings {
+    pub mode: &'static Mode,
     /// The words put before the program's path, then the path.
     pub command: Vec<String>,
     pub seed: u64,
@@ -16,6 +72,8 @@ pub struct Settings {
     pub threads: usize,
     /// Where the input of a difference is written.
     pub keep: String,
+    /// Goes on behind a difference, and counts them.
+    pub go_on: bool,
 }
 
 struct Difference {
@@ -36,11 +94,13 @@ fn program_text(command: &[String], input: &[u8]) -> String {
             std::process::exit(2);
         }
     };
-    // No output of `expand` fills a pipe, so all may be written first. A program that stops reading early
-    // is judged by what it prints.
-    let _ = child.stdin.take().expect("a pipe").write_all(input);
+    // Written beside the reading, as an output may fill a pipe. A program that stops reading early is judged by what it prints.
+    let mut to_program = child.stdin.take().expect("a pipe");
     let mut printed = Vec::new();
-    child.stdout.take().expect("a pipe").read_to_end(&mut printed).expect("the program's output");
+    std::thread::scope(|scope| {
+        scope.spawn(move || to_program.write_all(input));
+        child.stdout.take().expect("a pipe").read_to_end(&mut printed).expect("the program's output");
+    });
     let status = child.wait().expect("the program ends");
     let mut text = String::from_utf8_lossy(&printed).into_owned();
     if !status.success() {
@@ -60,7 +120,7 @@ pub fn compare(settings: &Settings) -> bool {
     std::thread::scope(|scope| {
         for _ in 0..settings.threads {
             std::thread::Builder::new()
-                .stack_size(64 << 20)
+                .stack_size(crate::STACK)
                 .spawn_scoped(scope, || {
                     let mut own_seen = Seen::default();
                     let mut own_kinds = Seen::default();
@@ -69,16 +129,17 @@ pub fn compare(settings: &Settings) -> bool {
                         if number >= settings.count {
                             break;
                         }
-                        let made = make(settings.seed, number);
-                        let (own, outcome) = expand(&made.input, &mut own_seen);
+                        let made = (settings.mode.make)(settings.seed, number);
+                        let (own, result) = (settings.mode.own)(&made.input, &mut own_seen);
                         own_kinds.note(made.kind);
-                        if made.sound && outcome.is_none_or(|o| (1..20).contains(&o.number)) {
+                        // Numbers of 20 up are no faults of the bytes.
+                        if made.sound && result.is_none_or(|number| (1..20).contains(&number)) {
                             eprintln!("input {number}, made as {}, should be admitted: {own}", made.kind);
                             std::process::exit(2);
                         }
                         let program = program_text(&settings.command, &made.input);
                         if own != program {
-                            stop.store(true, Ordering::Relaxed);
+                            stop.store(!settings.go_on, Ordering::Relaxed);
                             let kind = made.kind;
                             let found = Difference { number, kind, input: made.input, own, program };
                             differences.lock().expect("no panic").push(found);
@@ -93,7 +154,17 @@ pub fn compare(settings: &Settings) -> bool {
     let mut differences = differences.into_inner().expect("no panic");
     differences.sort_by_key(|difference| difference.number);
     if let Some(difference) = differences.first() {
+        for other in differences.iter().skip(1).take(9) {
+            println!(
+                "input {}, made as {}: own {}, program {}",
+                other.number,
+                other.kind,
+                other.own.trim(),
+                other.program.trim()
+            );
+        }
         show(settings, difference);
+        println!("{} inputs differ", differences.len());
         return false;
     }
     report(settings, &seen.into_inner().expect("no panic"), &kinds.into_inner().expect("no panic"), started.elapsed())
@@ -112,24 +183,17 @@ fn show(settings: &Settings, difference: &Difference) {
 fn report(settings: &Settings, seen: &Seen, kinds: &Seen, time: std::time::Duration) -> bool {
     const ENOUGH: u64 = 100;
     let mut few = false;
-    for (title, names, wanted) in [
-        ("kinds of inputs", kinds.others(&[]).as_slice(), false),
-        ("steps", STEPS, true),
-        ("results", RESULTS, true),
-        ("faults by what was met", FAULTS, true),
-        ("refusals by what asked", REFUSALS, true),
-    ] {
+    println!("kinds of inputs:");
+    for name in kinds.names() {
+        println!("  {:>8} {name}", kinds.count(name));
+    }
+    for (title, names) in settings.mode.wanted {
         println!("{title}:");
-        for name in names {
-            let count = if title == "kinds of inputs" { kinds.count(name) } else { seen.count(name) };
-            if !wanted {
-                println!("  {count:>8} {name}");
-            } else if count >= ENOUGH {
-                println!("  {count:>8} ok {name}");
-            } else {
-                println!("  {count:>8} FEW {name}");
-                few = true;
-            }
+        for name in *names {
+            let count = seen.count(name);
+            let enough = count >= ENOUGH;
+            println!("  {count:>8} {} {name}", if enough { "ok" } else { "FEW" });
+            few |= !enough;
         }
     }
     let seconds = time.as_secs_f64();

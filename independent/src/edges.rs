@@ -3,8 +3,12 @@
 //! `tools/edge_cases.py` makes the table and says what it holds.
 
 use crate::evaluator::{evaluate, Decision, Entry, Memory, Outcome};
-use crate::expand::answer_lines;
+use crate::expand::{answer_lines, take_apart, Input};
+use crate::make::{self, Made};
+use crate::random::Random;
 use crate::seen::Seen;
+use crate::sizes::{ENTRIES, NODES};
+use crate::text::checksum;
 
 /// How long each memory is, lent or not, and what stands in it before a run; a list place has a root and all open.
 const NODE_NUMBERS: usize = 32_010;
@@ -25,7 +29,7 @@ struct Row<'a> {
     question: &'a [u8],
 }
 
-fn take<'a>(rest: &mut &'a [u8], count: usize) -> Option<&'a [u8]> {
+pub fn take<'a>(rest: &mut &'a [u8], count: usize) -> Option<&'a [u8]> {
     if rest.len() < count {
         return None;
     }
@@ -59,11 +63,6 @@ fn row<'a>(rest: &mut &'a [u8]) -> Option<Row<'a>> {
     })
 }
 
-/// c starts at 0 and becomes (c * 31 + v) % 4294967296 for each number.
-fn checksum(numbers: impl Iterator<Item = u64>) -> u64 {
-    numbers.fold(0, |c, v| (c * 31 + v) % 4_294_967_296)
-}
-
 /// The numbers of an entry: its root, then its decisions.
 fn entry_numbers(entry: &Entry) -> Vec<u64> {
     let decision = |d: &Decision| match d {
@@ -82,7 +81,7 @@ fn whole<T: Clone>(lent: Vec<T>, mark: T, length: usize) -> Vec<T> {
 }
 
 /// The lines of a row.
-fn lines(row: &Row) -> String {
+fn lines(row: &Row, seen: &mut Seen) -> String {
     assert!(row.nodes <= NODE_NUMBERS && row.places <= PLACES && row.answer_bytes <= ANSWER_BYTES);
     let place = Entry::new(ROOT_MARK);
     let mut memory = Memory {
@@ -90,7 +89,10 @@ fn lines(row: &Row) -> String {
         list: vec![place.clone(); row.places],
         answers: vec![ANSWER_MARK; row.answer_bytes],
     };
-    let outcome = evaluate(row.book, row.question, row.fuel, &mut memory, &mut Seen::default());
+    let outcome = evaluate(row.book, row.question, row.fuel, &mut memory, seen);
+    if outcome.nodes == 0 && outcome.number > 20 {
+        seen.note(SEEN.iter().find(|name| name.ends_with(&outcome.number.to_string())).expect("21, 23 or 25"));
+    }
     let Outcome { number, place: at, turns, answers, nodes, choices, waiting } = outcome;
     let mut answer_text = String::new();
     answer_lines(&memory.answers, answers, &mut answer_text);
@@ -102,12 +104,57 @@ fn lines(row: &Row) -> String {
     format!("{label}: {result}; nodes {of_nodes} list {of_list} bytes {of_bytes}\n{answer_text}")
 }
 
-/// The lines of a whole table; None where it is cut short.
-pub fn edges(table: &[u8]) -> Option<String> {
-    let mut rest = table;
+/// How many bytes of a table the program reads.
+const TABLE_BYTES: usize = 65_536;
+
+/// The lines of a whole table.
+pub fn program(input: &[u8], seen: &mut Seen) -> (String, Option<u8>) {
+    let mut rest = input;
     let mut text = String::new();
     while !rest.is_empty() {
-        text.push_str(&lines(&row(&mut rest)?));
+        let row = row(&mut rest).expect("a whole table");
+        text.push_str(&lines(&row, seen));
     }
-    Some(text)
+    (text, Some(0))
 }
+
+/// A table of a few runs, as `expand` gets them, over memory lent in part.
+pub fn make(seed: u64, number: u64) -> Made {
+    let random = &mut Random::new(seed ^ 0xED6E, number);
+    let mut input = Vec::new();
+    let mut kind = "empty";
+    for step in 0..random.from(1, 4) as u64 {
+        let made = make::make(seed, 4 * number + step);
+        let Some(Input { book, question, fuel }) = take_apart(&made.input) else { continue };
+        if input.len() + book.len() + question.len() + 30 > TABLE_BYTES {
+            continue;
+        }
+        kind = made.kind;
+        // What the run would use of each memory, if it had all; lent is a little less, as much, a little more, or all.
+        let mut memory = Memory::sized(NODES, ENTRIES, ANSWER_BYTES);
+        let outcome = evaluate(book, question, fuel.min(3_500), &mut memory, &mut Seen::default());
+        let about = |random: &mut Random, used: usize, all: usize| match random.below(5) {
+            0 | 1 => all,
+            2 => random.below(used + 2).min(all),
+            _ => (used + random.below(4)).saturating_sub(2).min(all),
+        };
+        let nodes = (about(random, outcome.nodes, NODE_NUMBERS / 10) * 10 + random.below(10)).min(NODE_NUMBERS);
+        let places = about(random, outcome.waiting.max(3), PLACES);
+        let used = memory.answers.iter().rposition(|byte| *byte != 0).map_or(0, |last| last + 1);
+        let answer_bytes = about(random, used, ANSWER_BYTES);
+        input.extend([0, 3]);
+        input.extend(b"run");
+        for lent in [nodes, places, answer_bytes] {
+            input.extend((lent as u16).to_be_bytes());
+        }
+        input.extend(fuel.to_be_bytes());
+        for bytes in [book, question] {
+            input.extend((bytes.len() as u16).to_be_bytes());
+            input.extend(bytes);
+        }
+    }
+    Made { kind, input, sound: true }
+}
+
+/// Refusals at loading, and those of `expand`.
+pub const SEEN: &[&str] = &["loading 21", "loading 23", "loading 25"];

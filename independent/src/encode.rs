@@ -12,6 +12,7 @@ pub struct Encoded {
 /// The items of a book before they are put together.
 #[derive(Clone)]
 pub struct Items {
+    pub version: u8,
     pub symbols: Vec<Vec<u8>>,
     pub trees: Vec<Vec<u8>>,
 }
@@ -32,6 +33,11 @@ pub fn expression(expression: &Expression, out: &mut Vec<u8>) {
             self::expression(right, out);
         }
         Expression::Fail => out.push(3),
+        Expression::Share(sort, first, body) => {
+            out.extend([4, *sort]);
+            self::expression(first, out);
+            self::expression(body, out);
+        }
     }
 }
 
@@ -58,7 +64,7 @@ fn symbol(symbol: &Symbol) -> Vec<u8> {
 }
 
 pub fn items(book: &Book) -> Items {
-    let mut items = Items { symbols: Vec::new(), trees: Vec::new() };
+    let mut items = Items { version: book.version, symbols: Vec::new(), trees: Vec::new() };
     for one in &book.symbols {
         items.symbols.push(symbol(one));
         if let Some(of_one) = &one.tree {
@@ -72,7 +78,7 @@ pub fn items(book: &Book) -> Items {
 
 impl Items {
     pub fn assemble(&self) -> Encoded {
-        let mut out = Encoded { bytes: vec![1], lengths: vec![(1, 2)] };
+        let mut out = Encoded { bytes: vec![self.version], lengths: vec![(1, 2)] };
         let symbols: usize = self.symbols.iter().map(|item| 1 + item.len()).sum();
         out.bytes.extend((symbols as u16).to_be_bytes());
         for item in &self.symbols {
@@ -96,15 +102,15 @@ pub fn book(book: &Book) -> Encoded {
     items(book).assemble()
 }
 
-pub fn question(sort: u8, top: &Expression) -> Encoded {
+pub fn question(version: u8, sort: u8, asked: &Expression) -> Encoded {
     let mut part = vec![sort];
-    expression(top, &mut part);
-    question_of(&part)
+    expression(asked, &mut part);
+    question_of(version, &part)
 }
 
 /// A question with this part.
-pub fn question_of(part: &[u8]) -> Encoded {
-    let mut bytes = vec![1];
+pub fn question_of(version: u8, part: &[u8]) -> Encoded {
+    let mut bytes = vec![version];
     bytes.extend((part.len() as u16).to_be_bytes());
     bytes.extend(part);
     Encoded { bytes, lengths: vec![(1, 2)] }

@@ -20,7 +20,7 @@ pub fn take_apart(input: &[u8]) -> Option<Input<'_>> {
     Some(Input { book, question, fuel: u32::from_be_bytes(fuel) })
 }
 
-fn take_lengthy(bytes: &[u8]) -> Option<(&[u8], &[u8])> {
+pub fn take_lengthy(bytes: &[u8]) -> Option<(&[u8], &[u8])> {
     let length = u16::from_be_bytes([*bytes.first()?, *bytes.get(1)?]) as usize;
     let rest = &bytes[2..];
     if rest.len() < length {
@@ -29,8 +29,8 @@ fn take_lengthy(bytes: &[u8]) -> Option<(&[u8], &[u8])> {
     Some(rest.split_at(length))
 }
 
-/// The output text, and the outcome where there is one.
-pub fn expand(input: &[u8], seen: &mut Seen) -> (String, Option<Outcome>) {
+/// The output text, and the result's number where there is one.
+pub fn expand(input: &[u8], seen: &mut Seen) -> (String, Option<u8>) {
     let Some(Input { book, question, fuel }) = take_apart(input) else {
         seen.note("result J");
         return ("J\n".to_string(), None);
@@ -42,7 +42,7 @@ pub fn expand(input: &[u8], seen: &mut Seen) -> (String, Option<Outcome>) {
     answer_lines(&memory.answers, outcome.answers, &mut text);
     let Outcome { number, place, turns, answers, nodes, choices, waiting } = outcome;
     text.push_str(&format!("R {number} {place} {turns} {answers} {nodes} {choices} {waiting}\n"));
-    (text, Some(outcome))
+    (text, Some(number))
 }
 
 /// "per answer `A`, the symbols, `|`, the decision numbers", read back from the answer bytes.

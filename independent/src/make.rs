@@ -5,6 +5,7 @@ use crate::encode::{self, Encoded};
 use crate::evaluator::{evaluate, Memory};
 use crate::random::Random;
 use crate::seen::Seen;
+use crate::shares;
 use crate::sizes::*;
 use crate::sorted::{self, constructor, constructors, operation};
 use crate::special;
@@ -32,19 +33,40 @@ const SPECIALS: &[(&str, Special, usize)] = &[
     ("many answer bytes", special::many_answer_bytes, 3),
 ];
 
+type SharesMaker = fn(&mut Random) -> shares::Made;
+
+const SHARES: &[(&str, SharesMaker, usize)] = &[
+    ("deep firsts", shares::deep_firsts, 2),
+    ("many variables", shares::many_variables, 4),
+    ("shared by code 4", shares::shared_by_4, 3),
+    ("unused firsts", shares::unused_firsts, 3),
+];
+
 pub fn make(seed: u64, number: u64) -> Made {
     let random = &mut Random::new(seed, number);
-    let (kind, bytes, sound) = match random.weighted(&[25, 30, 20, 14, 7, 3, 2, 3]) {
+    let (kind, bytes, sound) = match random.weighted(&[21, 30, 24, 19, 7, 3, 2, 3, 11]) {
         0 => {
-            let book = sorted::book(random);
-            let (sort, top) = sorted::question(random, &book);
-            ("well-sorted", (encode::book(&book).bytes, encode::question(sort, &top).bytes), true)
+            let mut book = sorted::book(random);
+            some_edition(random, &mut book);
+            let asked = asked(random, &book);
+            ("well-sorted", (encode::book(&book).bytes, asked.encoded().bytes), true)
         }
         1 => {
             let weights: Vec<usize> = SPECIALS.iter().map(|special| special.2).collect();
             let (kind, maker, _) = SPECIALS[random.weighted(&weights)];
-            let (book, top) = maker(random);
-            (kind, (encode::book(&book).bytes, encode::question(0, &top).bytes), top.nodes() <= EXPRESSION_NODES)
+            let (mut book, top) = maker(random);
+            some_edition(random, &mut book);
+            let asked = some_version(random, &book, 0, top);
+            let sound = asked.expression.nodes() <= EXPRESSION_NODES;
+            (kind, (encode::book(&book).bytes, asked.encoded().bytes), sound)
+        }
+        8 => {
+            let weights: Vec<usize> = SHARES.iter().map(|maker| maker.2).collect();
+            let (kind, maker, _) = SHARES[random.weighted(&weights)];
+            let (book, expression, sound) = maker(random);
+            let asked =
+                Asked { version: if has_share(&expression) { 2 } else { version(random) }, sort: 0, expression };
+            (kind, (encode::book(&book).bytes, asked.encoded().bytes), sound)
         }
         2 => ("damaged book", damaged_book(random), false),
         3 => ("damaged question", damaged_question(random), false),
@@ -55,6 +77,60 @@ pub fn make(seed: u64, number: u64) -> Made {
     };
     let fuel = fuel(random, &bytes.0, &bytes.1);
     Made { kind, input: encode::input(&bytes.0, &bytes.1, fuel), sound }
+}
+
+/// A question before it is laid out as bytes.
+struct Asked {
+    version: u8,
+    sort: u8,
+    expression: Expression,
+}
+
+impl Asked {
+    fn encoded(&self) -> Encoded {
+        encode::question(self.version, self.sort, &self.expression)
+    }
+}
+
+fn version(random: &mut Random) -> u8 {
+    random.from(1, 2) as u8
+}
+
+/// How many in a hundred expressions get a shared part.
+fn some_shares(random: &mut Random) -> usize {
+    *random.pick(&[0, 5, 15, 30])
+}
+
+/// Half of the books are of version 2, with or without shared parts.
+fn some_edition(random: &mut Random, book: &mut Book) {
+    if random.percent(50) {
+        let percent = some_shares(random);
+        shares::to_version_2(random, book, percent);
+    }
+}
+
+/// The question of this expression in either version; shared parts come into version 2.
+fn some_version(random: &mut Random, book: &Book, sort: u8, expression: Expression) -> Asked {
+    if version(random) == 1 {
+        return Asked { version: 1, sort, expression };
+    }
+    let percent = some_shares(random);
+    let expression = shares::with_shares(random, book, sort, &[], expression, percent);
+    Asked { version: 2, sort, expression }
+}
+
+fn asked(random: &mut Random, book: &Book) -> Asked {
+    let (sort, expression) = sorted::question(random, book);
+    some_version(random, book, sort, expression)
+}
+
+fn has_share(expression: &Expression) -> bool {
+    match expression {
+        Expression::Variable(_) | Expression::Fail => false,
+        Expression::Apply(_, row) => row.iter().any(has_share),
+        Expression::Choice(left, right) => has_share(left) || has_share(right),
+        Expression::Share(..) => true,
+    }
 }
 
 /// A fuel at or about the end of the run, or any; the largest only where the run surely ends.
@@ -80,11 +156,18 @@ fn fuel(random: &mut Random, book: &[u8], question: &[u8]) -> u32 {
 }
 
 fn some_book(random: &mut Random) -> Book {
-    if random.percent(70) {
-        sorted::book(random)
-    } else {
-        special::usual(random).0
+    let edition = version(random);
+    some_book_of(random, edition)
+}
+
+/// A sound book of this version, with or without shared parts in version 2.
+pub fn some_book_of(random: &mut Random, version: u8) -> Book {
+    let mut book = if random.percent(70) { sorted::book(random) } else { special::usual(random).0 };
+    if version == 2 {
+        let percent = some_shares(random);
+        shares::to_version_2(random, &mut book, percent);
     }
+    book
 }
 
 /// Changes bytes: one changed, cut, inserted, taken out, or a length off.
@@ -124,7 +207,7 @@ fn small_or_any(random: &mut Random) -> u8 {
         0 => random.byte(),
         1 => random.from(0, 8) as u8,
         2 => *random.pick(&[62, 63, 64, 65, 255]),
-        _ => random.from(0, 3) as u8,
+        _ => random.from(0, 4) as u8,
     }
 }
 
@@ -144,11 +227,23 @@ fn damage_item(random: &mut Random, item: &mut Vec<u8>) {
     }
 }
 
-fn damaged_book(random: &mut Random) -> (Vec<u8>, Vec<u8>) {
+pub fn damaged_book(random: &mut Random) -> (Vec<u8>, Vec<u8>) {
     let mut book = some_book(random);
-    let (sort, top) = sorted::question(random, &book);
-    let question = encode::question(sort, &top).bytes;
-    let bytes = match random.below(14) {
+    let question = asked(random, &book).encoded().bytes;
+    let bytes = match random.below(15) {
+        14 => {
+            let mut items = encode::items(&book);
+            items.version = if random.percent(90) { 2 } else { 1 };
+            let operations = book.symbols.iter().filter(|symbol| symbol.operation);
+            for (number, symbol) in operations.enumerate() {
+                if random.percent(60) {
+                    let wrong = any_share(random, symbol.sort, symbol.arguments.len());
+                    items.trees[number] = vec![1];
+                    encode::expression(&wrong, &mut items.trees[number]);
+                }
+            }
+            items.assemble().bytes
+        }
         0..=2 => {
             let mut encoded = encode::book(&book);
             damage(random, &mut encoded);
@@ -195,7 +290,7 @@ fn damaged_book(random: &mut Random) -> (Vec<u8>, Vec<u8>) {
             let mut encoded = encode::book(&book);
             match random.below(5) {
                 0 | 1 => encoded.bytes[0] = random.byte(),
-                2 => encoded.bytes = [&[1, 0, 0][..], &encoded.bytes[3..]].concat(),
+                2 => encoded.bytes = [&[book.version, 0, 0][..], &encoded.bytes[3..]].concat(),
                 3 => {
                     let (place, size) = (encoded.bytes.len(), random.from(1, 3));
                     encoded.bytes.resize(place + size, 1);
@@ -224,6 +319,10 @@ fn damaged_book(random: &mut Random) -> (Vec<u8>, Vec<u8>) {
                 damage_tree(random, &book, &mut tree, &arguments);
                 book.symbols[number].tree = Some(tree);
             }
+            if random.percent(10) {
+                // The other version: a code 4 or an exempt is then a fault.
+                book.version = 3 - book.version;
+            }
             encode::book(&book).bytes
         }
     };
@@ -234,6 +333,7 @@ fn damaged_book(random: &mut Random) -> (Vec<u8>, Vec<u8>) {
 fn damage_tree(random: &mut Random, book: &Book, tree: &mut Tree, variables: &[u8]) {
     match tree {
         Tree::Exempt => *tree = Tree::Rule(any_expression(random, book, variables.len())),
+        Tree::Rule(_) if random.percent(15) => *tree = Tree::Exempt,
         Tree::Rule(rule) => damage_expression(random, book, rule, variables.len()),
         Tree::Branch(variable, cases) => {
             let mine = variables.get(*variable).map(|sort| constructors(book, *sort)).unwrap_or_default();
@@ -256,6 +356,7 @@ fn count_all(expression: &Expression) -> usize {
         Expression::Variable(_) | Expression::Fail => 1,
         Expression::Apply(_, row) => 1 + row.iter().map(count_all).sum::<usize>(),
         Expression::Choice(left, right) => 1 + count_all(left) + count_all(right),
+        Expression::Share(_, first, body) => 1 + count_all(first) + count_all(body),
     }
 }
 
@@ -268,7 +369,7 @@ fn nth<'a>(expression: &'a mut Expression, left: &mut usize) -> Option<&'a mut E
     match expression {
         Expression::Variable(_) | Expression::Fail => None,
         Expression::Apply(_, row) => row.iter_mut().find_map(|argument| nth(argument, left)),
-        Expression::Choice(one, other) => match nth(one, left) {
+        Expression::Choice(one, other) | Expression::Share(_, one, other) => match nth(one, left) {
             Some(found) => Some(found),
             None => nth(other, left),
         },
@@ -288,7 +389,11 @@ fn damage_expression(random: &mut Random, book: &Book, top: &mut Expression, var
 /// An expression that may be wrong in its sort, its symbol or its variable.
 fn any_expression(random: &mut Random, book: &Book, variables: usize) -> Expression {
     let symbols = book.symbols.len();
-    match random.below(8) {
+    match random.below(10) {
+        8 | 9 => {
+            let sort = random.pick(&book.symbols).sort;
+            any_share(random, sort, variables)
+        }
         0..=2 => Expression::Variable(random.from(0, variables)),
         3 => Expression::Variable(*random.pick(&[variables, 31, 32, 255])),
         4 => Expression::Apply(*random.pick(&[symbols, symbols + 1, 1023, 1024, 65535]), vec![]),
@@ -296,6 +401,26 @@ fn any_expression(random: &mut Random, book: &Book, variables: usize) -> Express
             let number = random.below(symbols);
             let row = book.symbols[number].arguments.iter().map(|_| Expression::Fail).collect();
             Expression::Apply(number, row)
+        }
+    }
+}
+
+/// A shared part that may be wrong: its sort byte, its first's sort, its variable, or the 33rd variable.
+fn any_share(random: &mut Random, sort: u8, variables: usize) -> Expression {
+    let first_sort = *random.pick(&[sort, 0, 1, 63, 64, 64, 65, 255]);
+    let first = match random.below(4) {
+        0 => Expression::Variable(random.from(0, variables)),
+        1 => shares::share(first_sort, Expression::Fail, Expression::Variable(variables)),
+        _ => Expression::Fail,
+    };
+    match random.below(4) {
+        0 => shares::share(first_sort, first, Expression::Variable(random.from(variables, variables + 1))),
+        1 => shares::share(first_sort, first, Expression::Fail),
+        2 => shares::share(sort.wrapping_add(1) & 63, Expression::Fail, Expression::Variable(variables)),
+        _ => {
+            // About the 33rd variable, counted from what is bound outside.
+            let wanted = random.from(31, 34).saturating_sub(variables);
+            (0..wanted).fold(Expression::Fail, |body, _| shares::share(sort, Expression::Fail, body))
         }
     }
 }
@@ -332,32 +457,38 @@ fn about_the_65th(random: &mut Random, book: &Book, variables: usize) -> Vec<u8>
 
 fn damaged_question(random: &mut Random) -> (Vec<u8>, Vec<u8>) {
     let book = some_book(random);
-    let (mut sort, mut top) = sorted::question(random, &book);
-    let bytes = match random.below(17) {
+    let mut asked = asked(random, &book);
+    let Asked { version, sort, .. } = asked;
+    let bytes = match random.below(24) {
+        18..=21 => {
+            asked.version = if random.percent(90) { 2 } else { 1 };
+            asked.expression = any_share(random, sort, 0);
+            asked.encoded().bytes
+        }
         0..=3 => {
-            let mut encoded = encode::question(sort, &top);
+            let mut encoded = asked.encoded();
             damage(random, &mut encoded);
             encoded.bytes
         }
         4 => {
-            let mut encoded = encode::question(sort, &top);
+            let mut encoded = asked.encoded();
             encoded.bytes[0] = random.byte();
             encoded.bytes.truncate(random.from(1, 9));
             encoded.bytes
         }
         5 | 6 => {
-            sort = *random.pick(&[sort, 1, 2, 63, 64, 65, 255, 70]);
-            encode::question(sort, &top).bytes
+            asked.sort = *random.pick(&[sort, 1, 2, 63, 64, 65, 255, 70]);
+            asked.encoded().bytes
         }
         7 | 8 => {
             let mut part = vec![sort];
-            encode::expression(&top, &mut part);
+            encode::expression(&asked.expression, &mut part);
             damage_item(random, &mut part);
-            encode::question_of(&part).bytes
+            encode::question_of(version, &part).bytes
         }
-        9 => {
+        9 | 22 | 23 => {
             // Over its size, or just not.
-            let mut encoded = encode::question(sort, &top);
+            let mut encoded = asked.encoded();
             const FULL: usize = QUESTION_BYTES;
             let length = *random.pick(&[FULL - 1, FULL, FULL, FULL + 1, FULL + 1, FULL + 1, FULL + 2, 65_535]);
             encoded.bytes.resize(length, 3);
@@ -372,27 +503,31 @@ fn damaged_question(random: &mut Random) -> (Vec<u8>, Vec<u8>) {
             encoded.bytes
         }
         10 => {
-            fill(random, &mut top);
-            encode::question(sort, &top).bytes
+            fill(random, &mut asked.expression);
+            asked.encoded().bytes
         }
         12 => {
             let part = [vec![sort], about_the_65th(random, &book, 0)].concat();
-            encode::question_of(&part).bytes
+            encode::question_of(version, &part).bytes
         }
         11 => {
             // Bytes left over, in the part or after it.
             let mut part = vec![sort];
-            encode::expression(&top, &mut part);
+            encode::expression(&asked.expression, &mut part);
             let more = random.from(0, 2);
             part.resize(part.len() + more, 3);
-            let mut bytes = encode::question_of(&part).bytes;
+            let mut bytes = encode::question_of(version, &part).bytes;
             let after = random.from(0, 2);
             bytes.resize(bytes.len() + after, 3);
             bytes
         }
+        13 => {
+            asked.version = 3 - version; // a code 4 is then a fault
+            asked.encoded().bytes
+        }
         _ => {
-            damage_expression(random, &book, &mut top, 0);
-            encode::question(sort, &top).bytes
+            damage_expression(random, &book, &mut asked.expression, 0);
+            asked.encoded().bytes
         }
     };
     (encode::book(&book).bytes, bytes)
@@ -402,7 +537,7 @@ fn damaged_question(random: &mut Random) -> (Vec<u8>, Vec<u8>) {
 /// are sound, and their questions run.
 fn odd_tree(random: &mut Random) -> (Vec<u8>, Vec<u8>) {
     // Sort 0 has one constructor without arguments, and one or two with.
-    let mut book = Book { symbols: vec![constructor(0, &[])] };
+    let mut book = Book::of(vec![constructor(0, &[])]);
     for _ in 0..random.from(1, 2) {
         let arguments = random.from(1, 8);
         book.symbols.push(constructor(0, &vec![0; arguments]));
@@ -421,11 +556,19 @@ fn odd_tree(random: &mut Random) -> (Vec<u8>, Vec<u8>) {
     let big = constructors(&book, 0);
     let row = (0..own).map(|_| spine(random, &book, &big, &mut left)).collect();
     let top = Expression::Apply(number, row);
+    if random.percent(30) {
+        if wrong == 3 {
+            let percent = some_shares(random);
+            shares::to_version_2(random, &mut book, percent);
+        } else {
+            book.version = 2; // an exempt is then a fault, but for one met before
+        }
+    }
     let mut items = encode::items(&book);
     if random.percent(25) {
         damage_item(random, &mut items.trees[0]);
     }
-    (items.assemble().bytes, encode::question(0, &top).bytes)
+    (items.assemble().bytes, some_version(random, &book, 0, top).encoded().bytes)
 }
 
 /// A value that goes deep on one side.
@@ -485,7 +628,7 @@ fn odd_path(random: &mut Random, book: &Book, variables: usize, branched: &mut V
 
 /// Books of about 1,024 symbols or about 32,768 bytes.
 fn large_book(random: &mut Random) -> (Vec<u8>, Vec<u8>) {
-    let mut book = Book::default();
+    let mut book = Book::of(Vec::new());
     if random.percent(50) {
         let count = random.from(1023, 1027);
         let with_trees = random.percent(50);
@@ -513,7 +656,7 @@ fn large_book(random: &mut Random) -> (Vec<u8>, Vec<u8>) {
         for _ in &book.symbols[(last as usize).min(book.symbols.len() - 1)].arguments {
             part.push(3);
         }
-        return (encoded.bytes, encode::question_of(&part).bytes);
+        return (encoded.bytes, encode::question_of(version(random), &part).bytes);
     }
     // Operations with large rules, then filled up to an exact size with exempt operations.
     book.symbols.push(constructor(0, &[]));
@@ -542,10 +685,10 @@ fn large_book(random: &mut Random) -> (Vec<u8>, Vec<u8>) {
     let mut bytes = encode::book(&book).bytes;
     assert_eq!(bytes.len(), wanted);
     if random.percent(15) {
-        bytes[0] = 3;
+        bytes[0] = *random.pick(&[2, 3]);
     }
     let top = Expression::Apply(random.below(book.symbols.len().min(100)), vec![]);
-    (bytes, encode::question(0, &top).bytes)
+    (bytes, encode::question(version(random), 0, &top).bytes)
 }
 
 /// Bytes by chance, with a right start now and then.
@@ -558,7 +701,7 @@ fn random_bytes(random: &mut Random) -> (Vec<u8>, Vec<u8>) {
     let mut question = row(random, 40);
     if random.percent(70) {
         if let Some(first) = book.first_mut() {
-            *first = 1;
+            *first = version(random);
         }
         if let Some(second) = book.get_mut(1) {
             *second = 0;
@@ -568,7 +711,7 @@ fn random_bytes(random: &mut Random) -> (Vec<u8>, Vec<u8>) {
         let sound = some_book(random);
         book = encode::book(&sound).bytes;
         if random.percent(70) {
-            question = encode::question_of(&question).bytes;
+            question = encode::question_of(version(random), &question).bytes;
         }
     }
     (book, question)
@@ -577,8 +720,8 @@ fn random_bytes(random: &mut Random) -> (Vec<u8>, Vec<u8>) {
 /// Inputs cut short, with bytes left over, or bytes by chance.
 fn odd_input(random: &mut Random) -> Vec<u8> {
     let book = some_book(random);
-    let (sort, top) = sorted::question(random, &book);
-    let mut input = encode::input(&encode::book(&book).bytes, &encode::question(sort, &top).bytes, 10);
+    let question = asked(random, &book).encoded().bytes;
+    let mut input = encode::input(&encode::book(&book).bytes, &question, 10);
     match random.below(5) {
         0 => input.truncate(random.below(input.len())),
         1 => {

@@ -2,7 +2,7 @@
 
 use std::collections::BTreeMap;
 
-/// Names are counted as they come; `expected` lists the ones that a comparison must have seen.
+/// Names are counted as they come; a mode of the comparison lists those that it must have seen.
 #[derive(Clone, Default)]
 pub struct Seen {
     counts: BTreeMap<&'static str, u64>,
@@ -23,15 +23,9 @@ impl Seen {
         }
     }
 
-    /// The names that were counted and stand in none of the given lists.
-    pub fn others(&self, lists: &[&[&'static str]]) -> Vec<&'static str> {
-        let mut names = Vec::new();
-        for name in self.counts.keys() {
-            if !lists.iter().any(|list| list.contains(name)) {
-                names.push(*name);
-            }
-        }
-        names
+    /// The names that were counted.
+    pub fn names(&self) -> impl Iterator<Item = &'static str> + '_ {
+        self.counts.keys().copied()
     }
 }
 
@@ -44,6 +38,10 @@ pub const STEPS: &[&str] = &[
     "exempt step",
     "rewrite",
     "one-variable forward rewrite",
+    "rewrite with a shared part on top",
+    "forward rewrite to a shared part",
+    "question with a shared part on top",
+    "question that ends in a lone variable",
     "pull-up through a constructor, as a child",
     "pull-up through a constructor, as a child behind another",
     "pull-up through a constructor, in a branch",
@@ -94,8 +92,12 @@ pub const FAULTS: &[&str] = &[
     "fault book 3 symbol length",
     "fault book 3 kind",
     "fault book 3 sort",
+    "fault book 3 sort of a shared part",
     "fault book 4 tree code",
+    "fault book 4 exempt in version 2",
     "fault book 4 expression code",
+    "fault book 4 code 4 in version 1",
+    "fault book 4 33rd variable",
     "fault book 4 symbol not there",
     "fault book 4 variable not there, expression",
     "fault book 4 variable not there, branch",
@@ -110,11 +112,15 @@ pub const FAULTS: &[&str] = &[
     "fault question 1 left over",
     "fault question 2 version",
     "fault question 3 sort",
+    "fault question 3 sort of a shared part",
     "fault question 4 expression code",
+    "fault question 4 code 4 in version 1",
+    "fault question 4 33rd variable",
     "fault question 4 symbol not there",
     "fault question 4 variable not there, expression",
     "fault question 4 65th node",
     "fault question 5 apply",
+    "fault question 5 variable",
 ];
 
 /// The refusals of the turns by what asked for the room.

@@ -45,7 +45,7 @@ pub fn book(random: &mut Random) -> Book {
         symbols.push(operation(sort, &row(random, &sorts, arguments), Tree::Exempt));
     }
     random.shuffle(&mut symbols);
-    let mut book = Book { symbols };
+    let mut book = Book::of(symbols);
     let taste = Taste {
         variable: random.from(5, 40),
         constructor: random.from(10, 50),

@@ -44,7 +44,7 @@ pub const S: usize = 1;
 pub const P: usize = 2;
 
 pub fn numbers() -> Book {
-    Book { symbols: vec![constructor(0, &[]), constructor(0, &[0]), constructor(0, &[0, 0])] }
+    Book::of(vec![constructor(0, &[]), constructor(0, &[0]), constructor(0, &[0, 0])])
 }
 
 /// A branch on a variable of the sort above.
@@ -420,7 +420,7 @@ pub fn shared_choices(random: &mut Random) -> Made {
 /// A book of usual functions: truth values, numbers, lists with nondeterministic insertion, sharing.
 pub fn usual(random: &mut Random) -> Made {
     // Sort 0: truth values; 1: numbers; 2: lists of numbers; 3: pairs of truth values.
-    let mut book = Book::default();
+    let mut book = Book::of(Vec::new());
     let b = &mut book;
     let no = add(b, constructor(0, &[]));
     let yes = add(b, constructor(0, &[]));

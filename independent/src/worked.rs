@@ -139,8 +139,8 @@ fn faults_of_the_book() {
     assert_eq!(at(&[]), (1, 0));
     assert_eq!(at(&small[..55]), (1, 21));
     assert_eq!(at(&[&small[..], &[0]].concat()), (1, 56));
-    assert_eq!(at(&vec![2; 32769]), (1, 0));
-    assert_eq!(at(&vec![2; 32768]), (2, 0));
+    assert_eq!(at(&vec![3; 32769]), (1, 0));
+    assert_eq!(at(&vec![3; 32768]), (2, 0));
     assert_eq!(at(&bytes("01 0000 0000")), (3, 1));
     assert_eq!(at(&bytes("01 0001 0B")), (1, 3)); // runs past the part: the lower number
     assert_eq!(at(&bytes("01 0001 00 0000")), (3, 3));
@@ -181,7 +181,7 @@ mod at_the_edges {
     use crate::special::{add, doubler, leaf, numbers, one, or, sized, times, S, Z};
 
     fn run(book: &Book, top: &Expression, fuel: u32) -> Outcome {
-        run_book(&encode::book(book).bytes, &encode::question(0, top).bytes, fuel, 3200, 64, 16384).0
+        run_book(&encode::book(book).bytes, &encode::question(1, 0, top).bytes, fuel, 3200, 64, 16384).0
     }
 
     #[test]
@@ -255,4 +255,236 @@ fn the_leftmost_choice_is_pulled_up_past_what_is_unfinished() {
     assert_eq!(memory.nodes[..4], [1, 0, 5, 6]);
     assert_eq!(memory.nodes[50..54], [0, 0, 1, 3]);
     assert_eq!(memory.nodes[60..64], [0, 0, 1, 4]);
+}
+
+/// Change requests L8 and L9, over a book with symbols 0 pair of two, 1 nil, 2 one, all of sort 0.
+mod edition_2 {
+    use super::*;
+
+    fn book(version: u8, tree: &str) -> Vec<u8> {
+        let tree = bytes(tree);
+        let mut out = vec![version];
+        out.extend(bytes("000E 0400000000 020000 020000 020100"));
+        out.extend((tree.len() as u16 + 2).to_be_bytes());
+        out.extend((tree.len() as u16).to_be_bytes());
+        out.extend(tree);
+        out
+    }
+
+    fn asked(version: u8, part: &str) -> Vec<u8> {
+        let part = bytes(part);
+        let mut out = vec![version];
+        out.extend((part.len() as u16).to_be_bytes());
+        out.extend(part);
+        out
+    }
+
+    fn result(book: &[u8], question: &[u8]) -> (u8, usize) {
+        let outcome = run_book(book, question, 100, 100, 8, 100).0;
+        (outcome.number, outcome.place)
+    }
+
+    const TREE: usize = 1 + 2 + 14 + 2 + 2;
+    const FAIL_RULE: &str = "01 03";
+
+    #[test]
+    fn versions_of_book_and_question_are_their_own() {
+        for version in 1..=2 {
+            for other in 1..=2 {
+                assert_eq!(result(&book(version, FAIL_RULE), &asked(other, "00 010001")), (0, 0));
+            }
+        }
+        assert_eq!(result(&book(3, FAIL_RULE), &asked(1, "00 010001")), (2, 0));
+        assert_eq!(result(&book(2, FAIL_RULE), &asked(3, "00 010001")), (12, 0));
+        assert_eq!(result(&book(1, "01 04 00 03 03"), &asked(2, "00 010001")), (4, TREE + 1));
+        assert_eq!(result(&book(2, "01 04 00 03 03"), &asked(1, "00 04 00 03 03")), (14, 4));
+        assert_eq!(result(&book(1, FAIL_RULE), &asked(2, "00 04 00 03 03")), (0, 0));
+    }
+
+    #[test]
+    fn refusals_at_a_shared_part() {
+        let at = |part: &str| result(&book(1, FAIL_RULE), &asked(2, part));
+        assert_eq!(at("00 04"), (11, 5));
+        assert_eq!(at("00 04 40 03 03"), (13, 5));
+        assert_eq!(at("00 04 3F 03 0000"), (15, 7)); // the variable has sort 63
+        assert_eq!(at("00 04 00 0000 03"), (14, 7)); // the first does not see its variable
+        assert_eq!(at("00 04 00 03"), (11, 7));
+        let bodies = |count: usize, last: &str| at(&format!("00 {}{last}", "04 00 03 ".repeat(count)));
+        assert_eq!(bodies(32, "00 1F"), (0, 0));
+        assert_eq!(bodies(33, "00 1F"), (14, 4 + 3 * 32));
+        assert_eq!(bodies(32, "04"), (14, 4 + 3 * 32)); // before the sort byte is missed
+        assert_eq!(result(&book(2, "00"), &asked(1, "00 03")), (4, TREE));
+        assert_eq!(result(&book(1, "00"), &asked(2, "00 03")), (0, 0));
+        assert_eq!(result(&book(2, "01 04 40 03 03"), &asked(1, "00 03")), (3, TREE + 2));
+    }
+
+    #[test]
+    fn the_body_s_top_takes_the_old_place_and_the_first_is_made_first() {
+        // symbol 3 = let x = nil or one in pair x x
+        let rule = "01 04 00 02 010001 010002 01 0000 0000 0000";
+        let (outcome, memory) = run_book(&book(2, rule), &asked(1, "00 010003"), 100, 100, 8, 100);
+        assert_eq!((outcome.number, outcome.answers, outcome.choices), (0, 2, 1));
+        let answers = "01 000A 0003 0000 0001 0001 0000 000A 0003 0000 0002 0002 0001";
+        assert_eq!(memory.answers[..25], bytes(answers));
+        let (_, memory) = run_book(&book(2, rule), &asked(1, "00 010003"), 1, 100, 8, 100);
+        assert_eq!(memory.nodes[..4], [0, 0, 1, 1]);
+        assert_eq!(memory.nodes[10..14], [1, 0, 2, 3]);
+    }
+
+    #[test]
+    fn a_lone_variable_on_top() {
+        // symbol 3 = let x = one in x: a forward to a fresh node
+        let (outcome, memory) = run_book(&book(2, "01 04 00 010002 0000"), &asked(1, "00 010003"), 1, 100, 8, 100);
+        assert_eq!(outcome, of(20, 0, [1, 0, 2, 0, 1]));
+        assert_eq!(memory.nodes[..3], [3, 0, 1]);
+        assert_eq!(memory.nodes[10..13], [0, 2, 0]);
+        // let x = nil in let y = one in x: the entry waits on node 0, with two made; and y: on node 1
+        let question = |variable: &str| asked(2, &format!("00 04 00 010001 04 00 010002 {variable}"));
+        for (variable, root) in [("0000", 0), ("0001", 1)] {
+            let (outcome, memory) = run_book(&book(1, FAIL_RULE), &question(variable), 0, 100, 8, 100);
+            assert_eq!(outcome, of(20, 0, [0, 0, 2, 0, 1]));
+            assert_eq!(memory.list[0].root, root);
+        }
+    }
+
+    #[test]
+    fn firsts_nest_deep() {
+        let deep = |count: usize| format!("{}03 {}", "04 00 ".repeat(count), "00 00 ".repeat(count));
+        let worker = move || {
+            assert_eq!(result(&book(1, FAIL_RULE), &asked(2, &format!("00 {}", deep(1022)))), (0, 0));
+            assert_eq!(result(&book(1, FAIL_RULE), &asked(2, &format!("00 {}", deep(1023)))), (11, 0));
+            assert_eq!(result(&book(2, &format!("01 {}", deep(8180))), &asked(1, "00 010003")), (0, 0));
+        };
+        std::thread::Builder::new().stack_size(crate::STACK).spawn(worker).expect("a thread").join().expect("no panic");
+    }
+}
+
+/// Requests L5, L6 and L9 against the evaluator itself, over inputs by chance.
+mod against_runs {
+    use super::*;
+    use crate::admit::{Book, Expression};
+    use crate::random::Random;
+    use crate::{convert, encode, listing, make, sorted};
+    use std::collections::BTreeSet;
+
+    /// L9: "both give the same results, answers and nodes for every question and fuel".
+    #[test]
+    fn a_converted_book_runs_alike() {
+        let mut exempt_steps = 0;
+        for number in 0..400 {
+            let random = &mut Random::new(9, number);
+            let book = make::some_book_of(random, 1);
+            let (sort, asked) = sorted::question(random, &book);
+            let old = encode::book(&book).bytes;
+            let new = convert::convert(&old, 32_768, &mut Seen::default()).expect("it fits");
+            let question = encode::question(1, sort, &asked).bytes;
+            let fuel = random.below(300) as u32;
+            let mut seen = Seen::default();
+            let (mut before, mut after) = (marked(300, 20, 1000), marked(300, 20, 1000));
+            let outcome = evaluate(&old, &question, fuel, &mut before, &mut seen);
+            assert_eq!(outcome, evaluate(&new, &question, fuel, &mut after, &mut Seen::default()));
+            assert_eq!(before, after);
+            exempt_steps += seen.count("exempt step");
+        }
+        assert!(exempt_steps > 10);
+    }
+
+    /// The symbols of the answers to an operation without arguments; None where the run did not finish.
+    fn values(book: &[u8], symbol: usize) -> Option<BTreeSet<usize>> {
+        let question = encode::question(1, 0, &Expression::Apply(symbol, vec![])).bytes;
+        let mut memory = Memory::sized(3200, 64, 16384);
+        let outcome = evaluate(book, &question, 10_000, &mut memory, &mut Seen::default());
+        let at = |place: usize| u16::from_be_bytes([memory.answers[place], memory.answers[place + 1]]) as usize;
+        let mut found = BTreeSet::new();
+        let mut place = 1;
+        for _ in 0..outcome.answers {
+            assert_eq!(at(place + 2), 1);
+            found.insert(at(place + 4));
+            place += 2 + at(place);
+        }
+        (outcome.number == 0).then_some(found)
+    }
+
+    /// L5: "the values the first can reach are exactly its BT headings, and the second's are those one or more BT hops up".
+    #[test]
+    fn a_listing_s_book_answers_with_its_terms() {
+        let mut finished = 0;
+        for number in 0..300 {
+            let made = listing::make(5, number);
+            let Ok(listing) = listing::Listing::read(&made.input) else { continue };
+            let Ok(book) = listing::book_of(&made.input, 32_768) else { continue };
+            let broader = listing.broader();
+            let count = broader.len();
+            if count > 20 {
+                continue;
+            }
+            for (heading, terms) in broader.iter().enumerate() {
+                let direct: BTreeSet<usize> = terms.iter().copied().collect();
+                let mut above = direct.clone();
+                for _ in 0..count {
+                    above = above
+                        .iter()
+                        .flat_map(|term| broader[*term].iter().copied())
+                        .chain(above.iter().copied())
+                        .collect();
+                }
+                assert_eq!(values(&book, count + heading), Some(direct));
+                if let Some(found) = values(&book, 2 * count + heading) {
+                    finished += 1;
+                    assert_eq!(found, above);
+                }
+            }
+        }
+        assert!(finished > 300, "{finished}");
+    }
+
+    /// L6 on small listings, by trying every row of headings.
+    #[test]
+    fn the_circle_is_the_first_of_the_shortest() {
+        let (mut circles, mut without) = (0, 0);
+        for number in 0..600 {
+            let made = listing::make(6, number);
+            let Ok((listing, saved)) = listing::saved(&made.input, 400) else { continue };
+            let broader = listing.broader();
+            if broader.len() > 6 {
+                continue;
+            }
+            let mut rows: Vec<Vec<usize>> = (0..broader.len()).map(|heading| vec![heading]).collect();
+            let mut first = None;
+            for _ in 0..broader.len() {
+                rows.sort();
+                let closed = |row: &&Vec<usize>| broader[row[row.len() - 1]].contains(&row[0]);
+                first = rows.iter().find(closed).cloned();
+                if first.is_some() {
+                    break;
+                }
+                let longer = |row: &Vec<usize>| -> Vec<Vec<usize>> {
+                    broader[row[row.len() - 1]].iter().map(|term| [&row[..], &[*term]].concat()).collect()
+                };
+                rows = rows.iter().flat_map(longer).collect::<BTreeSet<_>>().into_iter().collect();
+            }
+            match saved {
+                listing::Saved::Circle(circle) => {
+                    circles += 1;
+                    assert_eq!(Some(circle), first);
+                }
+                listing::Saved::Levels(levels) => {
+                    without += 1;
+                    assert_eq!(first, None);
+                    for (heading, terms) in broader.iter().enumerate() {
+                        assert_eq!(levels[heading], terms.iter().map(|term| 1 + levels[*term]).max().unwrap_or(0));
+                    }
+                }
+            }
+        }
+        assert!(circles > 50 && without > 50, "{circles} {without}");
+    }
+
+    #[test]
+    fn a_writer_s_book_is_the_one_read() {
+        for number in 0..200 {
+            let book: Book = make::some_book_of(&mut Random::new(1, number), 1);
+            assert!(crate::writer::writes_back(&book));
+        }
+    }
 }
