@@ -4,3 +4,6 @@ pub mod Again
 pub mod TreesAgain
 pub mod SymbolsAgain
 pub mod Same
+pub mod ScanWays
+pub mod OldBytes
+pub mod Marks

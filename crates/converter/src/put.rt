@@ -33,7 +33,7 @@ pub(crate) fn put_two(made: &mut [u8; Limits::BOOK], q: usize, n: usize)
 
 // Bytes as they stand.
 pub(crate) fn put_part(from: &[u8], made: &mut [u8; Limits::BOOK], q: usize)
-    requires { ⌜ (q < 1099511627776) × (length (now from) ≤ mostBookBytes) ⌝ }
+    requires { ⌜ (q ≤ 1099511627776) × (length (now from) ≤ mostBookBytes) ⌝ }
     ensures { λ _. ⌜ now (made .exit) ≡ sets (now (made .entry)) q (now (from .entry)) ⌝ }
 {
     let mut i: usize = 0;

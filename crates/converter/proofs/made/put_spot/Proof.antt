@@ -1,3 +1,8 @@
+-- `put_spot` meets its contract, by the code that stands at p.
+use mathlib.Core.Path.{sym, _∙_}
+use Prim.Native.Nat.{_+_}
+use native.Mathlib.Omega.{arith}
+use Rattle.converter.proofs.ScanWays.{part-short, exempt-put, rule-put, branch-put}
 use borrow.Author.Needs.{needs}
 use Rattle.converter.proofs.made.put_spot.Statement.{statement}
 use Rattle.converter.proofs.made.put_spot.Tie as tie
@@ -35,7 +40,9 @@ add-t13 c = search needs
 
 -- src/made.rt:52:9
 returns : tie.Need-returns
-returns c = search needs
+returns c =
+    let a = c .before .before .before .before .before .before .before .args in
+    exempt-put (a .book .now) (a .ends .now) (a .p) (a .made .now) (a .q) (sym (c .before .before .before .before .before .byte .ensures) ∙ c .before .before .before .before .if1 .taken) (c .before .before .put-byte .ensures) (c .put-byte2 .ensures)
 
 -- src/made.rt:58:34
 add-part-of : tie.Need-add-part-of
@@ -59,7 +66,10 @@ add-put-part c = search needs
 
 -- src/made.rt:60:9
 put-part-requires : tie.Need-put-part-requires
-put-part-requires c κs = search needs
+put-part-requires c κs =
+    let a = c .before .before .before .before .before .before .before .before .before .before .args in
+    let rule = c .before .before .before .part-of .ensures in
+    (omega arith, rw rule (omega (arith, part-short (a .book .now) (a .p + 1) (c .before .before .before .before .end-of .result))))
 
 -- src/made.rt:62:18
 add-t15 : tie.Need-add-t15
@@ -79,7 +89,9 @@ add-t24 c = search needs
 
 -- src/made.rt:61:9
 returns-2 : tie.Need-returns-2
-returns-2 c = search needs
+returns-2 c =
+    let a = c .before .before .before .before .before .before .before .before .before .before .before .args in
+    rule-put (a .book .now) (a .ends .now) (a .p) (a .made .now) (a .q) _ (sym (c .before .before .before .before .before .before .before .before .before .byte .ensures) ∙ c .before .before .before .before .before .before .before .if2 .taken) (c .before .before .before .before .part-of .ensures ∙ rw (c .before .before .before .before .before .end-of .ensures)) (c .before .before .put-byte3 .ensures) (c .put-part .ensures)
 
 -- src/made.rt:66:5
 put-byte-requires-4 : tie.Need-put-byte-requires-4
@@ -111,7 +123,11 @@ add-t30 c = search needs
 
 -- src/made.rt:38:1
 returns-3 : tie.Need-returns-3
-returns-3 c = search needs
+returns-3 c =
+    let a = c .before .before .before .before .before .before .before .before .before .args in
+    let code = c .before .before .before .before .before .before .before .byte .ensures in
+    branch-put (a .book .now) (a .ends .now) (a .p) (a .made .now) (a .q) (λ is. c .before .before .before .before .before .before .if1 .left (code ∙ is)) (λ is. c .before .before .before .before .before .if2 .left (code ∙ is))
+    (c .before .byte2 .ensures) (c .before .before .before .put-byte4 .ensures) (c .put-byte5 .ensures)
 
 pub put-spot-spec : {M : Type 1} → statement M
 put-spot-spec =

@@ -1,0 +1,57 @@
+-- `put_item` meets its contract: the tree is put, and then its length in front of it.
+use Prim.Native.Nat.{_+_}
+use native.Mathlib.Omega.{arith}
+use Rattle.converter.specs.Scan.{spots}
+use Rattle.converter.proofs.ScanWays.{counted-long, counted-put}
+use borrow.Author.Needs.{needs}
+use Rattle.converter.proofs.made.put_item.Statement.{statement}
+use Rattle.converter.proofs.made.put_item.Tie as tie
+use Rattle.converter.proofs.made.put_item.Reads as reads
+use Rattle.converter.proofs.made.put_item.Lts as lts
+use Rattle.converter.proofs.made.put_spots.Reads as put-spots-reads
+use Rattle.converter.proofs.put.put_two.Reads as put-two-reads
+
+-- src/made.rt:105:38
+add-put-spots : tie.Need-add-put-spots
+add-put-spots c = search needs
+
+-- src/made.rt:105:51
+add-put-spots-2 : tie.Need-add-put-spots-2
+add-put-spots-2 c = search needs
+
+-- src/made.rt:105:9
+put-spots-requires : tie.Need-put-spots-requires
+put-spots-requires c κs = search needs
+
+-- src/made.rt:106:27
+add-put-two : tie.Need-add-put-two
+add-put-two c = search needs
+
+-- src/made.rt:106:22
+sub-put-two : tie.Need-sub-put-two
+sub-put-two c = search needs
+
+-- src/made.rt:106:5
+put-two-requires : tie.Need-put-two-requires
+put-two-requires c κs = search needs
+
+-- src/made.rt:94:1
+returns : tie.Need-returns
+returns c =
+    let a = c .before .before .before .before .before .args in
+    let xs = spots (a .book .now) (a .ends .now) (a .e) (a .p + 2) in
+    let put = c .before .before .put-spots .ensures in
+    let r = c .before .before .put-spots .result in
+    (counted-long (a .made .now) (a .q) r xs (put .0), omega (arith, put .1), λ fits. counted-put (a .made .now) (a .q) r xs (put .0) fits _ _ (put .2) (c .put-two .ensures))
+
+pub put-item-spec : {M : Type 1} → statement M
+put-item-spec =
+    tie.close
+    (tie.spec
+    add-put-spots
+    add-put-spots-2
+    put-spots-requires
+    add-put-two
+    sub-put-two
+    put-two-requires
+    returns)
