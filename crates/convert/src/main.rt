@@ -46,7 +46,11 @@ fn show_item(n: u64) {
 fn show_bytes(bytes: &[u8]) {
     let mut p: usize = 0;
     while p < bytes.len() {
-        let end = if bytes.len() - p < LINE { bytes.len() } else { p + LINE };
+        let end = if bytes.len() - p < LINE {
+            bytes.len()
+        } else {
+            p + LINE
+        };
         show_line(part_of(bytes, p, end));
         p = end;
     }

@@ -7,3 +7,5 @@ pub mod Same
 pub mod ScanWays
 pub mod OldBytes
 pub mod Marks
+pub mod Scanned
+pub mod ConvertWays

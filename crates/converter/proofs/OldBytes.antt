@@ -1,5 +1,4 @@
 -- What was read from a book stands there as it is written: its expressions and its symbols.
-use mathlib.Core.Bool.{not}
 use mathlib.Core.List.{List, [], _∷_, _++_, append-assoc}
 use mathlib.Core.Logic.{⊎-elim}
 use mathlib.Core.Path.{_≡_, refl, sym, ap, _∙_}
@@ -8,11 +7,11 @@ use native.Mathlib.Nat.{eq-or-lt-of-le}
 use native.Mathlib.Numerals.{add-one}
 use native.Mathlib.Omega.{arith}
 use borrow.Author.Tests.{ltb-false}
-use lib.Dec.{leb, ltb, eqb}
+use lib.Dec.{ltb, eqb}
 use lib.ListN.{length, getD, take, drop, length-append, length-take, length-drop, take-append-drop}
 use lib.Seq.{drop-cons, drop-drop, take-at}
 use Rattle.limits.specs.Sizes.{mostExpressionNodes, mostArguments, lastSort}
-use Rattle.reading.specs.Reading.{Reading, got}
+use Rattle.reading.specs.Reading.{Reading}
 use Rattle.reading.specs.Bytes.{bigEndian, twoBytes, lengthAt}
 use Rattle.reading.specs.Answer.{partOf}
 use Rattle.reading.proofs.Good.{Good, good, refused, each, both, then-good, unless, byte-good, number-good}
@@ -155,6 +154,11 @@ kind-same zero small = refl
 kind-same (suc zero) small = refl
 kind-same (suc (suc kind)) small = absurd (omega arith)
 
+-- a symbol takes some bytes
+some : (x : Symbol) → 0 < length (symbolWritten x)
+unfolding symbolWritten
+some x = omega arith
+
 module _ (bs : List ℕ) (e : ℕ) (fits : e ≤ length bs) where
   symbol-reads : (before p : ℕ) → Good (λ x q. Read bs p q (symbolWritten x) × (q ≤ e)) (symbolAt bs e before p)
   unfolding symbolAt symbolWritten
@@ -184,10 +188,15 @@ module _ (bs : List ℕ) (e : ℕ) (fits : e ≤ length bs) where
       then-good (symbols-read bound (suc before) q (first .1) (omega (arith, first .0 .long, some x))) λ rest r more.
       good (read-then (first .0) (more .0), more .1)))
       (eq-or-lt-of-le h)
-    where
-      some : (x : Symbol) → 0 < length (symbolWritten x)
-      unfolding symbolWritten
-      some x = omega arith
+
+-- where the symbol part begins and ends
+opened-is : (bs : List ℕ) → Good (λ e q. (q ≡ 3) × (e ≡ 3 + bigEndian bs 1) × (e ≤ length bs)) (opened bs)
+unfolding opened
+opened-is bs =
+    unless _ _ _ λ _ _. then-good (byte-good bs 0 (length bs) 0) λ version p byte. unless _ _ _ λ _ _. unless _ _ _ λ _ _.
+    then-good (length-is bs (length bs) p) λ e q part. unless _ _ _ λ _ _.
+    let first : p ≡ 1 = omega (arith, byte .1) in
+    good (omega (arith, part .0), part .1 ∙ rw first, part .2)
 
 -- the symbol part, behind its length
 pub part-reads : (bs : List ℕ) → Bytes bs → Good (λ S q. (partOf bs 1 (3 + bigEndian bs 1) ≡ counted (symbolsWritten S)) × (q ≡ 3 + bigEndian bs 1)) (symbolPart bs)
@@ -196,14 +205,6 @@ part-reads bs bytes =
     then-good (opened-is bs) λ e q start.
     each (λ S r is. whole e q start S r is) (symbols-read bs e (start .2) (e - q) 0 q (omega (arith, start .0, start .1)) (omega arith))
   where
-    opened-is : (bs : List ℕ) → Good (λ e q. (q ≡ 3) × (e ≡ 3 + bigEndian bs 1) × (e ≤ length bs)) (opened bs)
-    unfolding opened
-    opened-is bs =
-        unless _ _ _ λ _ _. then-good (byte-good bs 0 (length bs) 0) λ version p byte. unless _ _ _ λ _ _. unless _ _ _ λ _ _.
-        then-good (length-is bs (length bs) p) λ e q part. unless _ _ _ λ _ _.
-        let first : p ≡ 1 = omega (arith, byte .1) in
-        good (omega (arith, part .0), part .1 ∙ rw first, part .2)
-
     whole : (e q : ℕ) → (q ≡ 3) × (e ≡ 3 + bigEndian bs 1) × (e ≤ length bs) → (S : Symbols) (r : ℕ) → Read bs q r (symbolsWritten S) × (r ≡ e)
         → (partOf bs 1 (3 + bigEndian bs 1) ≡ twoBytes (length (symbolsWritten S)) ++ symbolsWritten S) × (r ≡ 3 + bigEndian bs 1)
     whole e q (first, end, inside) S r (read, all) =

@@ -1,13 +1,13 @@
 -- The scan of the old book, step by step: one lemma for each way through the code.
-use mathlib.Core.List.{List, [], _∷_, _++_}
-use mathlib.Core.Path.{_≡_, refl, sym, ap, _∙_}
+use mathlib.Core.List.{List, [], _++_}
+use mathlib.Core.Path.{_≡_, refl, ap, _∙_}
 use Prim.Native.Nat.{ℕ, zero, suc, _+_, _*_, _-_, _<_, _≤_}
 use native.Mathlib.Numerals.{add-one}
 use native.Mathlib.Omega.{arith}
 use mathlib.Core.Bool.{true, false}
 use borrow.Author.Tests.{lt-ltb, le-ltb}
 use lib.Dec.{ltb}
-use lib.ListN.{length, getD, set, drop, length-append, length-drop, length-take}
+use lib.ListN.{length, getD, set, drop, length-drop, length-take}
 use lib.Seq.{sets}
 use Rattle.limits.specs.Sizes.{mostBookBytes}
 use Rattle.reading.specs.Bytes.{bigEndian, twoBytes}
@@ -94,7 +94,7 @@ module _ (bs ends : List ℕ) where
       spots-any (e - p) (suc (e - p)) e p (omega arith) (omega arith)
       ∙ rw (spotsIn, lt-ltb p e h) (ap (_++_ (spotBytes bs ends p)) (spots-any (e - p) (e - spotBehind bs ends p) e (spotBehind bs ends p) (omega arith) (omega arith)))
 
--- ---- the items
+  -- ---- the items
 
   items-any : (n m p : ℕ) → length bs ≤ p + n → length bs ≤ p + m → itemsIn bs ends n p ≡ itemsIn bs ends m p
   unfolding itemsIn

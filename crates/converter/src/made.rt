@@ -6,7 +6,7 @@ ghost use lib.ListN.{length, getD, take};
 ghost use lib.Seq.{sets};
 ghost use Rattle.limits.specs.Sizes.{mostBookBytes};
 ghost use Rattle.converter.specs.Written.{counted};
-ghost use Rattle.converter.specs.Scan.{spotBytes, spotBehind, spots, itemEnd, items, front, scanned};
+ghost use Rattle.converter.specs.Scan.{spotBytes, spotBehind, spots, items, front, scanned};
 use super::put::put_byte;
 use super::put::put_part;
 use super::put::put_two;

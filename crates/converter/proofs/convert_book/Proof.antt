@@ -1,64 +1,63 @@
+-- `convert_book` meets its contract: the size, the version, the reader's own, and then the new book, which the scan of the old one makes.
+use mathlib.Core.Path.{sym, ap, _∙_}
+use native.Mathlib.Omega.{arith}
+use Rattle.reading.specs.Answer.{readingOf}
+use Rattle.converter.proofs.ConvertWays.{over-size, second-version, not-admitted, converted-laid}
 use borrow.Author.Needs.{needs}
 use Rattle.converter.proofs.convert_book.Statement.{statement}
 use Rattle.converter.proofs.convert_book.Tie as tie
-use Rattle.converter.proofs.convert_book.Reads as reads
-use Rattle.converter.proofs.convert_book.Lts as lts
-use Rattle.book.proofs.read_book.Reads as read-book-reads
-use Rattle.converter.proofs.lay.Reads as lay-reads
-use Rattle.converter.proofs.refused.Reads as refused-reads
-use Rattle.reading.proofs.byte.Reads as byte-reads
 
--- src/lib.rt:77:9
 refused-requires : tie.Need-refused-requires
 refused-requires c κs = search needs
 
--- src/lib.rt:77:9
 returns : tie.Need-returns
-returns c = search needs
+returns c =
+    let a = c .before .before .before .before .args in
+    rw (c .refused .ensures) (over-size (a .book .now) (a .room .now) (c .before .if1 .taken))
 
--- src/lib.rt:79:8
 byte-requires : tie.Need-byte-requires
 byte-requires c κs = search needs
 
--- src/lib.rt:80:9
 refused-requires-2 : tie.Need-refused-requires-2
 refused-requires-2 c κs = search needs
 
--- src/lib.rt:80:9
 returns-2 : tie.Need-returns-2
-returns-2 c = search needs
+returns-2 c =
+    let a = c .before .before .before .before .before .before .args in
+    rw (c .refused2 .ensures) (second-version (a .book .now) (a .room .now) (c .before .before .before .if1 .left) (sym (c .before .before .byte .ensures) ∙ c .before .if2 .taken))
 
--- src/lib.rt:82:9
 read-book-requires : tie.Need-read-book-requires
 read-book-requires c κs = search needs
 
--- src/lib.rt:85:28
 enum-known-reading : tie.Need-enum-known-reading
 enum-known-reading c = search needs
 
--- src/lib.rt:85:47
 refused-requires-3 : tie.Need-refused-requires-3
 refused-requires-3 c κs = search needs
 
--- src/lib.rt:87:17
 enum-told : tie.Need-enum-told
 enum-told c = search needs
 
--- src/lib.rt:88:13
 lay-requires : tie.Need-lay-requires
 lay-requires c κs = search needs
 
--- src/lib.rt:73:1
 returns-3 : tie.Need-returns-3
-returns-3 c = search needs
+returns-3 c =
+    let a = c .before .before .before .before .before .before .before .before .before .before .args in
+    let code = c .before .before .before .before .before .before .byte .ensures in
+    let told = ap readingOf (sym (c .before .before .reading .given .1)) ∙ c .before .before .before .before .read-book .ensures .0 in
+    rw (c .refused3 .ensures) (not-admitted (a .book .now) (a .room .now) (c .before .before .before .before .before .before .before .if1 .left) (λ is. c .before .before .before .before .before .if2 .left (code ∙ is)) told)
 
--- src/lib.rt:73:1
 same-length : tie.Need-same-length
 same-length c = search needs
 
--- src/lib.rt:73:1
 returns-4 : tie.Need-returns-4
-returns-4 c = search needs
+returns-4 c =
+    let a = c .before .before .before .before .before .before .before .before .before .before .before .before .before .before .args in
+    let code = c .before .before .before .before .before .before .before .before .before .before .byte .ensures in
+    let read = c .before .before .before .before .before .before .before .before .read-book .ensures in
+    let told = ap readingOf (sym (c .before .before .before .before .before .before .enum-told .given .1)) ∙ read .0 in
+    c .before .before .lay .ensures ∙ converted-laid (a .book .now) (a .room .now) (c .before .before .before .before .before .before .before .before .before .before .before .if1 .left) (λ is. c .before .before .before .before .before .before .before .before .before .if2 .left (code ∙ is)) (λ i. omega (arith, c .before .before .before .before .before .before .before .before .before .before .before .before .before .shared-slice-known .given i)) told (read .3)
 
 pub convert-book-spec : {M : Type 1} → statement M
 convert-book-spec =

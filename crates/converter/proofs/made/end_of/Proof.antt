@@ -5,26 +5,19 @@ use lib.ListN.{List·getD-eq-default}
 use borrow.Author.Needs.{needs}
 use Rattle.converter.proofs.made.end_of.Statement.{statement}
 use Rattle.converter.proofs.made.end_of.Tie as tie
-use Rattle.converter.proofs.made.end_of.Reads as reads
-use Rattle.converter.proofs.made.end_of.Lts as lts
 
--- src/made.rt:34:25
 mul-result : tie.Need-mul-result
 mul-result c = search needs
 
--- src/made.rt:34:25
 shared-slice-read-result : tie.Need-shared-slice-read-result
 shared-slice-read-result c = search needs
 
--- src/made.rt:34:25
 cast-result : tie.Need-cast-result
 cast-result c = omega (arith, c .shared-slice-known .given (c .before .before .args .p))
 
--- src/made.rt:31:1
 returns : tie.Need-returns
 returns c = search needs
 
--- src/made.rt:31:1
 returns-2 : tie.Need-returns-2
 returns-2 c = sym (List·getD-eq-default (c .before .args .ends .now) 0 (c .if1 .left))
 

@@ -1,52 +1,49 @@
+-- `made_of` meets its contract: the front, then the items, then the length of all items in front of them.
+use Prim.Native.Nat.{ℕ}
+use lib.ListN.{replicate, length-replicate}
+use Rattle.limits.specs.Sizes.{mostBookBytes}
+use Rattle.converter.proofs.ConvertWays.{size-is, bytes-are}
 use borrow.Author.Needs.{needs}
 use Rattle.converter.proofs.made.made_of.Statement.{statement}
 use Rattle.converter.proofs.made.made_of.Tie as tie
-use Rattle.converter.proofs.made.made_of.Reads as reads
-use Rattle.converter.proofs.made.made_of.Lts as lts
-use Rattle.converter.proofs.made.put_front.Reads as put-front-reads
-use Rattle.converter.proofs.made.put_items.Reads as put-items-reads
-use Rattle.converter.proofs.put.put_two.Reads as put-two-reads
-use Rattle.reading.proofs.number.Reads as number-reads
 
--- src/made.rt:148:9
 put-front-requires : tie.Need-put-front-requires
 put-front-requires c κs = search needs
 
--- src/made.rt:149:42
 number-requires : tie.Need-number-requires
 number-requires c κs = search needs
 
--- src/made.rt:149:38
 add-put-items : tie.Need-add-put-items
 add-put-items c = search needs
 
--- src/made.rt:149:38
 add-put-items-2 : tie.Need-add-put-items-2
 add-put-items-2 c = search needs
 
--- src/made.rt:149:75
 add-put-items-3 : tie.Need-add-put-items-3
 add-put-items-3 c = search needs
 
--- src/made.rt:149:9
 put-items-requires : tie.Need-put-items-requires
 put-items-requires c κs = search needs
 
--- src/made.rt:150:36
 add-put-two : tie.Need-add-put-two
 add-put-two c = search needs
 
--- src/made.rt:150:28
 sub-put-two : tie.Need-sub-put-two
 sub-put-two c = search needs
 
--- src/made.rt:150:5
 put-two-requires : tie.Need-put-two-requires
 put-two-requires c κs = search needs
 
--- src/made.rt:143:1
 returns : tie.Need-returns
-returns c = search needs
+returns c =
+    let a = c .before .before .before .before .before .before .before .before .args in
+    let first = c .before .before .before .before .before .put-front .ensures in
+    let then = rw (c .before .before .before .before .number .ensures .0) at (c .before .before .put-items .ensures) in
+    let book = a .book .now in
+    let ends = a .ends .now in (
+      size-is book ends (first .0) (then .0),
+      λ fits. bytes-are book ends (first .0) (then .0) (replicate mostBookBytes 0) _ _ _ (length-replicate {A = ℕ} mostBookBytes 0) (first .2) fits (then .2 fits) (c .put-two .ensures),
+    )
 
 pub made-of-spec : {M : Type 1} → statement M
 made-of-spec =

@@ -6,36 +6,25 @@ use Rattle.converter.proofs.ScanWays.{counted-long, counted-put}
 use borrow.Author.Needs.{needs}
 use Rattle.converter.proofs.made.put_item.Statement.{statement}
 use Rattle.converter.proofs.made.put_item.Tie as tie
-use Rattle.converter.proofs.made.put_item.Reads as reads
-use Rattle.converter.proofs.made.put_item.Lts as lts
-use Rattle.converter.proofs.made.put_spots.Reads as put-spots-reads
-use Rattle.converter.proofs.put.put_two.Reads as put-two-reads
 
--- src/made.rt:105:38
 add-put-spots : tie.Need-add-put-spots
 add-put-spots c = search needs
 
--- src/made.rt:105:51
 add-put-spots-2 : tie.Need-add-put-spots-2
 add-put-spots-2 c = search needs
 
--- src/made.rt:105:9
 put-spots-requires : tie.Need-put-spots-requires
 put-spots-requires c κs = search needs
 
--- src/made.rt:106:27
 add-put-two : tie.Need-add-put-two
 add-put-two c = search needs
 
--- src/made.rt:106:22
 sub-put-two : tie.Need-sub-put-two
 sub-put-two c = search needs
 
--- src/made.rt:106:5
 put-two-requires : tie.Need-put-two-requires
 put-two-requires c κs = search needs
 
--- src/made.rt:94:1
 returns : tie.Need-returns
 returns c =
     let a = c .before .before .before .before .before .args in

@@ -13,10 +13,6 @@ use Rattle.converter.proofs.ScanWays.{items-none, items-more}
 use borrow.Author.Needs.{needs}
 use Rattle.converter.proofs.made.put_items.Statement.{statement}
 use Rattle.converter.proofs.made.put_items.Tie as tie
-use Rattle.converter.proofs.made.put_items.Reads as reads
-use Rattle.converter.proofs.made.put_items.Lts as lts
-use Rattle.converter.proofs.made.put_item.Reads as put-item-reads
-use Rattle.reading.proofs.number.Reads as number-reads
 
 abbrev Inv-loop : tie.InvT-loop
 Inv-loop book ends p made₀ q old₀ new₀ made old new =
@@ -27,31 +23,24 @@ Inv-loop book ends p made₀ q old₀ new₀ made old new =
 abbrev μ-loop : tie.MeasureT-loop
 μ-loop book ends p made₀ q old₀ new₀ made old new = length book - old
 
--- src/made.rt:123:5
 loop-holds : tie.Need-loop-holds Inv-loop μ-loop
 loop-holds c = (omega arith, omega arith, omega arith, refl, λ fits. refl)
 
--- src/made.rt:124:17
 add-e : tie.Need-add-e Inv-loop μ-loop
 add-e c = search needs
 
--- src/made.rt:124:27
 number-requires : tie.Need-number-requires Inv-loop μ-loop
 number-requires c κs = search needs
 
--- src/made.rt:124:17
 add-e-2 : tie.Need-add-e-2 Inv-loop μ-loop
 add-e-2 c = search needs
 
--- src/made.rt:125:9
 put-item-requires : tie.Need-put-item-requires Inv-loop μ-loop
 put-item-requires c κs = search needs
 
--- src/made.rt:123:5
 loop-less : tie.Need-loop-less Inv-loop μ-loop
 loop-less c = search needs
 
--- src/made.rt:123:5
 loop-again : tie.Need-loop-again Inv-loop μ-loop
 loop-again c =
     let a = c .before .before .before .before .before .before .args in
@@ -62,11 +51,14 @@ loop-again c =
     let put = c .put-item .ensures in
     let now = counted (spots book ends e (l .old + 2)) in
     let then = items book ends e in
-    let split : items book ends (l .old) ≡ now ++ then = items-more book ends (l .old) (omega arith) ∙ rw (c .before .before .number .ensures .0) in
-    (omega arith, omega arith, omega (arith, put .1), omega (arith, put .0, left-length _ now then split),
-    λ fits. left-put _ now then split (l .made) (l .new) _ _ (put .2 fits) (put .0) ∙ l .inv .4 (omega (arith, put .0)))
+    let split : items book ends (l .old) ≡ now ++ then = items-more book ends (l .old) (omega arith) ∙ rw (c .before .before .number .ensures .0) in (
+      omega arith,
+      omega arith,
+      omega (arith, put .1),
+      omega (arith, put .0, left-length _ now then split),
+      λ fits. left-put _ now then split (l .made) (l .new) _ _ (put .2 fits) (put .0) ∙ l .inv .4 (omega (arith, put .0)),
+    )
 
--- src/made.rt:111:1
 returns : tie.Need-returns Inv-loop μ-loop
 returns c =
     let a = c .before .before .before .args in

@@ -6,122 +6,89 @@ use Rattle.converter.proofs.ScanWays.{part-short, exempt-put, rule-put,
 use borrow.Author.Needs.{needs}
 use Rattle.converter.proofs.made.put_spot.Statement.{statement}
 use Rattle.converter.proofs.made.put_spot.Tie as tie
-use Rattle.converter.proofs.made.put_spot.Reads as reads
-use Rattle.converter.proofs.made.put_spot.Lts as lts
-use Rattle.converter.proofs.made.end_of.Reads as end-of-reads
-use Rattle.converter.proofs.put.put_byte.Reads as put-byte-reads
-use Rattle.converter.proofs.put.put_part.Reads as put-part-reads
-use Rattle.reading.proofs.byte.Reads as byte-reads
-use Rattle.reading.proofs.part_of.Reads as part-of-reads
 
--- src/made.rt:48:9
 byte-requires : tie.Need-byte-requires
 byte-requires c κs = search needs
 
--- src/made.rt:50:9
 put-byte-requires : tie.Need-put-byte-requires
 put-byte-requires c κs = search needs
 
--- src/made.rt:51:24
 add-put-byte : tie.Need-add-put-byte
 add-put-byte c = search needs
 
--- src/made.rt:51:9
 put-byte-requires-2 : tie.Need-put-byte-requires-2
 put-byte-requires-2 c κs = search needs
 
--- src/made.rt:53:18
 add-t12 : tie.Need-add-t12
 add-t12 c = search needs
 
--- src/made.rt:54:18
 add-t13 : tie.Need-add-t13
 add-t13 c = search needs
 
--- src/made.rt:52:9
 returns : tie.Need-returns
 returns c =
     let a = c .before .before .before .before .before .before .before .args in
     exempt-put (a .book .now) (a .ends .now) (a .p) (a .made .now) (a .q) (sym (c .before .before .before .before .before .byte .ensures) ∙ c .before .before .before .before .if1 .taken) (c .before .before .put-byte .ensures) (c .put-byte2 .ensures)
 
--- src/made.rt:58:34
 add-part-of : tie.Need-add-part-of
 add-part-of c = search needs
 
--- src/made.rt:58:41
 end-of-requires : tie.Need-end-of-requires
 end-of-requires c κs = search needs
 
--- src/made.rt:58:13
 part-of-requires : tie.Need-part-of-requires
 part-of-requires c κs = search needs
 
--- src/made.rt:59:9
 put-byte-requires-3 : tie.Need-put-byte-requires-3
 put-byte-requires-3 c κs = search needs
 
--- src/made.rt:60:30
 add-put-part : tie.Need-add-put-part
 add-put-part c = search needs
 
--- src/made.rt:60:9
 put-part-requires : tie.Need-put-part-requires
 put-part-requires c κs =
     let a = c .before .before .before .before .before .before .before .before .before .before .args in
     let rule = c .before .before .before .part-of .ensures in
     (omega arith, rw rule (omega (arith, part-short (a .book .now) (a .p + 1) (c .before .before .before .before .end-of .result))))
 
--- src/made.rt:62:18
 add-t15 : tie.Need-add-t15
 add-t15 c = search needs
 
--- src/made.rt:62:18
 add-t21 : tie.Need-add-t21
 add-t21 c = search needs
 
--- src/made.rt:63:18
 add-t22 : tie.Need-add-t22
 add-t22 c = search needs
 
--- src/made.rt:63:18
 add-t24 : tie.Need-add-t24
 add-t24 c = search needs
 
--- src/made.rt:61:9
 returns-2 : tie.Need-returns-2
 returns-2 c =
     let a = c .before .before .before .before .before .before .before .before .before .before .before .args in
     rule-put (a .book .now) (a .ends .now) (a .p) (a .made .now) (a .q) _ (sym (c .before .before .before .before .before .before .before .before .before .byte .ensures) ∙ c .before .before .before .before .before .before .before .if2 .taken) (c .before .before .before .before .part-of .ensures ∙ rw (c .before .before .before .before .before .end-of .ensures)) (c .before .before .put-byte3 .ensures) (c .put-part .ensures)
 
--- src/made.rt:66:5
 put-byte-requires-4 : tie.Need-put-byte-requires-4
 put-byte-requires-4 c κs = search needs
 
--- src/made.rt:67:20
 add-put-byte-2 : tie.Need-add-put-byte-2
 add-put-byte-2 c = search needs
 
--- src/made.rt:67:38
 add-byte : tie.Need-add-byte
 add-byte c = search needs
 
--- src/made.rt:67:27
 byte-requires-2 : tie.Need-byte-requires-2
 byte-requires-2 c κs = search needs
 
--- src/made.rt:67:5
 put-byte-requires-5 : tie.Need-put-byte-requires-5
 put-byte-requires-5 c κs = search needs
 
--- src/made.rt:69:14
 add-t28 : tie.Need-add-t28
 add-t28 c = search needs
 
--- src/made.rt:70:14
 add-t30 : tie.Need-add-t30
 add-t30 c = search needs
 
--- src/made.rt:38:1
 returns-3 : tie.Need-returns-3
 returns-3 c =
     let a = c .before .before .before .before .before .before .before .before .before .args in

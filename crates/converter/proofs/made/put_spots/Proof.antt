@@ -7,14 +7,11 @@ use lib.ListN.{length}
 use lib.Seq.{sets}
 use Rattle.limits.specs.Sizes.{mostBookBytes}
 use Rattle.writer.proofs.Putting.{left-length, left-put}
-use Rattle.converter.specs.Scan.{spotBytes, spotBehind, spots}
+use Rattle.converter.specs.Scan.{spotBytes, spots}
 use Rattle.converter.proofs.ScanWays.{onward, spots-none, spots-more}
 use borrow.Author.Needs.{needs}
 use Rattle.converter.proofs.made.put_spots.Statement.{statement}
 use Rattle.converter.proofs.made.put_spots.Tie as tie
-use Rattle.converter.proofs.made.put_spots.Reads as reads
-use Rattle.converter.proofs.made.put_spots.Lts as lts
-use Rattle.converter.proofs.made.put_spot.Reads as put-spot-reads
 
 abbrev Inv-loop : tie.InvT-loop
 Inv-loop book ends e p made₀ q at₀ made at =
@@ -25,22 +22,18 @@ Inv-loop book ends e p made₀ q at₀ made at =
 abbrev μ-loop : tie.MeasureT-loop
 μ-loop book ends e p made₀ q at₀ made at = e - at .old
 
--- src/made.rt:87:5
 loop-holds : tie.Need-loop-holds Inv-loop μ-loop
 loop-holds c = (omega arith, omega arith, omega arith, refl, refl)
 
--- src/made.rt:88:9
 put-spot-requires : tie.Need-put-spot-requires Inv-loop μ-loop
 put-spot-requires c κs = search needs
 
--- src/made.rt:87:5
 loop-less : tie.Need-loop-less Inv-loop μ-loop
 loop-less c =
     let a = c .before .before .before .before .before .before .args in
     let l = c .before .before .before .before .loop in
     omega (arith, c .put-spot .ensures .0, onward (a .book .now) (a .ends .now) (l .at .old) .more)
 
--- src/made.rt:87:5
 loop-again : tie.Need-loop-again Inv-loop μ-loop
 loop-again c =
     let a = c .before .before .before .before .before .before .args in
@@ -51,11 +44,14 @@ loop-again c =
     let put = c .put-spot .ensures in
     let now = spotBytes book ends (l .at .old) in
     let then = spots book ends (a .e) (c .put-spot .result .old) in
-    let split : spots book ends (a .e) (l .at .old) ≡ now ++ then = spots-more book ends (a .e) (l .at .old) (omega arith) ∙ rw (put .0) in
-    (omega (arith, put .0, far .more), omega (arith, put .0, far .near), omega (arith, put .0, put .1, far .few), omega (arith, put .1, left-length _ now then split),
-    left-put _ now then split (l .made) (l .at .new) _ _ (put .2) (put .1) ∙ l .inv .4)
+    let split : spots book ends (a .e) (l .at .old) ≡ now ++ then = spots-more book ends (a .e) (l .at .old) (omega arith) ∙ rw (put .0) in (
+      omega (arith, put .0, far .more),
+      omega (arith, put .0, far .near),
+      omega (arith, put .0, put .1, far .few),
+      omega (arith, put .1, left-length _ now then split),
+      left-put _ now then split (l .made) (l .at .new) _ _ (put .2) (put .1) ∙ l .inv .4,
+    )
 
--- src/made.rt:75:1
 returns : tie.Need-returns Inv-loop μ-loop
 returns c =
     let a = c .before .before .before .before .args in

@@ -8,9 +8,6 @@ use Rattle.writer.proofs.Making.{put-more, put-all}
 use borrow.Author.Needs.{needs}
 use Rattle.converter.proofs.put.put_part.Statement.{statement}
 use Rattle.converter.proofs.put.put_part.Tie as tie
-use Rattle.converter.proofs.put.put_part.Reads as reads
-use Rattle.converter.proofs.put.put_part.Lts as lts
-use Rattle.converter.proofs.put.put_byte.Reads as put-byte-reads
 
 abbrev Inv-loop : tie.InvT-loop
 Inv-loop from made₀ q i₀ made i = (i ≤ length from) × (made ≡ sets made₀ q (take i from))
@@ -18,38 +15,30 @@ Inv-loop from made₀ q i₀ made i = (i ≤ length from) × (made ≡ sets made
 abbrev μ-loop : tie.MeasureT-loop
 μ-loop from made₀ q i₀ made i = length from - i
 
--- src/put.rt:40:5
 loop-holds : tie.Need-loop-holds Inv-loop μ-loop
 loop-holds c = search needs
 
--- src/put.rt:41:24
 add-put-byte : tie.Need-add-put-byte Inv-loop μ-loop
 add-put-byte c = search needs
 
--- src/put.rt:41:31
 shared-slice-read-put-byte : tie.Need-shared-slice-read-put-byte Inv-loop μ-loop
 shared-slice-read-put-byte c = search needs
 
--- src/put.rt:41:9
 put-byte-requires : tie.Need-put-byte-requires Inv-loop μ-loop
 put-byte-requires c κs = search needs
 
--- src/put.rt:42:9
 add-i : tie.Need-add-i Inv-loop μ-loop
 add-i c = search needs
 
--- src/put.rt:40:5
 loop-less : tie.Need-loop-less Inv-loop μ-loop
 loop-less c = search needs
 
--- src/put.rt:40:5
 loop-again : tie.Need-loop-again Inv-loop μ-loop
 loop-again c =
     let a = c .before .before .before .before .before .before .args in
     let turn = c .before .before .before .before .loop in
     (omega arith, c .put-byte .ensures ∙ put-more (a .made .now) (a .from .now) (turn .made) (a .q) (turn .i) (turn .inv .1) _ 0 (omega arith) refl)
 
--- src/put.rt:35:1
 returns : tie.Need-returns Inv-loop μ-loop
 returns c =
     let a = c .before .before .before .args in
