@@ -1,5 +1,5 @@
--- How the code makes the new book: one way through the bytes of the old one, with the ends that its reader noted. `Same.antt` says what the new book is; this
--- is shown to be the same for every admitted version 1 book.
+-- How the code makes the new book: one way through the bytes of the old one, with the ends that its reader noted. `Convert.antt` says what the new book is;
+-- this is shown to be the same bytes for every admitted book.
 use mathlib.Core.Bool.{true, false}
 use mathlib.Core.List.{List, [], _∷_, _++_}
 use Prim.Native.Nat.{ℕ, zero, suc, _+_, _-_}
