@@ -1,15 +1,15 @@
 -- What the converter makes and hands back: one lemma for each way through the code.
-use mathlib.Core.List.{List, [], _++_}
+use mathlib.Core.List.{List, _++_}
 use mathlib.Core.Path.{_≡_, sym, _∙_}
 use Prim.Native.Nat.{ℕ, _+_, _-_, _<_, _≤_}
 use native.Mathlib.Nat.{zero-add}
 use native.Mathlib.Omega.{arith}
 use borrow.Author.Tests.{lt-ltb, le-ltb, eq-eqb, ne-eqb}
-use lib.ListN.{length, take, drop, length-append}
+use lib.ListN.{length, drop, length-append}
 use lib.Seq.{sets, take-at}
 use Rattle.limits.specs.Sizes.{mostBookBytes}
 use Rattle.reading.specs.Reading.{got, refusal}
-use Rattle.reading.specs.Bytes.{bigEndian, twoBytes, versionOf}
+use Rattle.reading.specs.Bytes.{bigEndian, versionOf}
 use Rattle.reading.specs.Answer.{keeping}
 use Rattle.reading.proofs.Keeping.{kept-got, kept-refusal, passed, failed-test}
 use Rattle.book.specs.Rules.{Rules}
@@ -20,28 +20,29 @@ use Rattle.writer.proofs.Putting.{sets-behind}
 use Rattle.writer.proofs.Making.{put-front}
 use Rattle.converter.specs.Written.{counted}
 use Rattle.converter.specs.Convert.{Outcome, refusing, readOld, laid, convert}
+use Rattle.converter.specs.InCode.{Put, MadeOf}
+use Rattle.converter.specs.declared.made.Made.{Made}
 use Rattle.converter.specs.Scan.{front, items, scanned}
-use Rattle.converter.proofs.ScanWays.{counted-long, counted-put}
 use Rattle.converter.proofs.Scanned.{scanned-is}
 
 -- ---- the bytes that are made
 
-module _ (bs ends : List ℕ) {q size : ℕ} (first : q ≡ length (front bs)) (end : size ≡ q + 2 + length (items bs ends (3 + bigEndian bs 1 + 2))) where
-  abbrev trees : List ℕ
-  trees = items bs ends (3 + bigEndian bs 1 + 2)
-
-  pub size-is : size ≡ length (scanned bs ends)
-  unfolding scanned
-  size-is = omega (arith, counted-long [] q size trees end, length-append (front bs) (counted trees))
-
-  pub bytes-are : (zeros one two three : List ℕ) → length zeros ≡ mostBookBytes → one ≡ sets zeros 0 (front bs) → size ≤ mostBookBytes
-      → two ≡ sets one (q + 2) trees → (size - (q + 2) < 65536 → three ≡ sets two q (twoBytes (size - (q + 2)))) → take size three ≡ scanned bs ends
-  unfolding scanned
-  bytes-are zeros one two three room opened fits put counting =
-      let all : three ≡ sets zeros 0 (front bs ++ counted trees) =
-      counted-put one q size trees end fits two three put counting ∙ rw (opened, first) (sym (rw zero-add at (sets-behind zeros 0 (front bs) (counted trees)))) in
-      let long = size-is in
-      rw (all, put-front (front bs ++ counted trees) zeros (omega arith)) (take-at (front bs ++ counted trees) _ size (sym long))
+-- the front, and behind it the items, counted
+pub all-made : (bs ends zeros : List ℕ) {q most most′ : ℕ} {one : List ℕ} (made : Made) → length zeros ≡ mostBookBytes → Put (front bs) zeros 0 most q one
+    → Put (counted (items bs ends (3 + bigEndian bs 1 + 2))) one q most′ (made .size) (made .bytes) → MadeOf (scanned bs ends) made
+unfolding scanned
+all-made bs ends zeros {q} {one = one} made room first second =
+    let trees = counted (items bs ends (3 + bigEndian bs 1 + 2)) in
+    let all = front bs ++ trees in
+    let start : q ≡ length (front bs) = omega (arith, first .behind) in
+    let size : made .size ≡ length all = omega (arith, second .behind, length-append (front bs) trees) in
+    record {
+      size = size;
+      bytes = λ fits.
+          let put : made .bytes ≡ sets zeros 0 all =
+          second .put fits ∙ rw (first .put (omega (arith, second .behind)), start) (sym (rw zero-add at (sets-behind zeros 0 (front bs) trees))) in
+          rw (put, put-front all zeros (omega arith)) (take-at all _ (made .size) (sym size));
+    }
 
 -- ---- into the room
 

@@ -50,12 +50,16 @@ module _ (bs ends : List ℕ) where
   abbrev pub itemEnd : ℕ → ℕ
   itemEnd p = p + 2 + bigEndian bs p
 
+  -- such a tree, up to e, behind its new length
+  abbrev pub itemTo : ℕ → ℕ → List ℕ
+  itemTo e p = counted (spots e (p + 2))
+
   -- the trees whose lengths stand from p on, each behind its new length; the first number bounds how many there are
   unfoldable pub itemsIn : ℕ → ℕ → List ℕ
   itemsIn zero p = []
   itemsIn (suc n) p = elim (ltb p (length bs)) [
     | false ↦ []
-    | true ↦ counted (spots (itemEnd p) (p + 2)) ++ itemsIn n (itemEnd p)
+    | true ↦ itemTo (itemEnd p) p ++ itemsIn n (itemEnd p)
   ]
 
   abbrev pub items : ℕ → List ℕ

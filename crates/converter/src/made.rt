@@ -2,11 +2,10 @@
 // next tree, behind a rule too, at the end that the reader noted, and behind a branch's variable its first tree.
 ghost use mathlib.Core.Path.{_≡_};
 ghost use Prim.Native.Nat.{_+_, _*_, _<_, _≤_};
-ghost use lib.ListN.{length, getD, take};
-ghost use lib.Seq.{sets};
+ghost use lib.ListN.{length, getD};
 ghost use Rattle.limits.specs.Sizes.{mostBookBytes};
-ghost use Rattle.converter.specs.Written.{counted};
-ghost use Rattle.converter.specs.Scan.{spotBytes, spotBehind, spots, items, front, scanned};
+ghost use Rattle.converter.specs.Scan.{spots, itemTo, items, front, scanned};
+ghost use Rattle.converter.specs.InCode.{SpotPut, Put, MadeOf};
 use super::put::put_byte;
 use super::put::put_part;
 use super::put::put_two;
@@ -43,7 +42,7 @@ fn put_spot(
     q: usize,
 ) -> Places
     requires { ⌜ (length (now book) ≤ mostBookBytes) × (p < 1099511627776) × (q < 1099511627776) ⌝ }
-    ensures { λ r. ⌜ (r .old ≡ spotBehind (now (book .entry)) (now (ends .entry)) p) × (r .new ≡ q + length (spotBytes (now (book .entry)) (now (ends .entry)) p)) × (now (made .exit) ≡ sets (now (made .entry)) q (spotBytes (now (book .entry)) (now (ends .entry)) p)) ⌝ }
+    ensures { λ r. ⌜ SpotPut (now (book .entry)) (now (ends .entry)) p (now (made .entry)) q r (now (made .exit)) ⌝ }
 {
     let code = byte(book, p);
     if code == 0 {
@@ -81,7 +80,7 @@ fn put_spots(
     q: usize,
 ) -> usize
     requires { ⌜ (length (now book) ≤ mostBookBytes) × (p ≤ e) × (e ≤ 4 * mostBookBytes) × (q < 549755813888) ⌝ }
-    ensures { λ r. ⌜ (r ≡ q + length (spots (now (book .entry)) (now (ends .entry)) e p)) × (r ≤ q + 9 * mostBookBytes) × (now (made .exit) ≡ sets (now (made .entry)) q (spots (now (book .entry)) (now (ends .entry)) e p)) ⌝ }
+    ensures { λ r. ⌜ Put (spots (now (book .entry)) (now (ends .entry)) e p) (now (made .entry)) q (q + 9 * mostBookBytes) r (now (made .exit)) ⌝ }
 {
     let mut at = Places { old: p, new: q };
     while at.old < e {
@@ -100,7 +99,7 @@ fn put_item(
     q: usize,
 ) -> usize
     requires { ⌜ (length (now book) ≤ mostBookBytes) × (p + 2 ≤ e) × (e ≤ 4 * mostBookBytes) × (q < 274877906944) ⌝ }
-    ensures { λ r. ⌜ (r ≡ q + length (counted (spots (now (book .entry)) (now (ends .entry)) e (p + 2)))) × (r ≤ q + 10 * mostBookBytes) × (r ≤ mostBookBytes → now (made .exit) ≡ sets (now (made .entry)) q (counted (spots (now (book .entry)) (now (ends .entry)) e (p + 2)))) ⌝ }
+    ensures { λ r. ⌜ Put (itemTo (now (book .entry)) (now (ends .entry)) e p) (now (made .entry)) q (q + 10 * mostBookBytes) r (now (made .exit)) ⌝ }
 {
     let r = put_spots(book, ends, e, p + 2, made, q + 2);
     put_two(made, q, r - (q + 2));
@@ -116,7 +115,7 @@ fn put_items(
     q: usize,
 ) -> usize
     requires { ⌜ (length (now book) ≤ mostBookBytes) × (p ≤ 4 * mostBookBytes) × (q < 4294967296) ⌝ }
-    ensures { λ r. ⌜ (r ≡ q + length (items (now (book .entry)) (now (ends .entry)) p)) × (r < 274877906944) × (r ≤ mostBookBytes → now (made .exit) ≡ sets (now (made .entry)) q (items (now (book .entry)) (now (ends .entry)) p)) ⌝ }
+    ensures { λ r. ⌜ Put (items (now (book .entry)) (now (ends .entry)) p) (now (made .entry)) q 274877906944 r (now (made .exit)) ⌝ }
 {
     let mut old = p;
     let mut new = q;
@@ -131,7 +130,7 @@ fn put_items(
 // Puts the version byte, and the symbol part as it stands: the place behind it.
 fn put_front(book: &[u8], made: &mut [u8; Limits::BOOK]) -> usize
     requires { ⌜ length (now book) ≤ mostBookBytes ⌝ }
-    ensures { λ r. ⌜ (r ≡ length (front (now (book .entry)))) × (r ≤ 2 + mostBookBytes) × (now (made .exit) ≡ sets (now (made .entry)) 0 (front (now (book .entry)))) ⌝ }
+    ensures { λ r. ⌜ Put (front (now (book .entry))) (now (made .entry)) 0 (2 + mostBookBytes) r (now (made .exit)) ⌝ }
 {
     let part = part_of(book, 1, 3 + number(book, 1));
     put_byte(made, 0, 2);
@@ -142,7 +141,7 @@ fn put_front(book: &[u8], made: &mut [u8; Limits::BOOK]) -> usize
 // The new book of an admitted one, with the ends that the reader noted.
 pub(crate) fn made_of(book: &[u8], ends: &[u16; Limits::BOOK]) -> Made
     requires { ⌜ length (now book) ≤ mostBookBytes ⌝ }
-    ensures { λ r. ⌜ (r .size ≡ length (scanned (now (book .entry)) (now (ends .entry)))) × (r .size ≤ mostBookBytes → take (r .size) (r .bytes) ≡ scanned (now (book .entry)) (now (ends .entry))) ⌝ }
+    ensures { λ r. ⌜ MadeOf (scanned (now (book .entry)) (now (ends .entry))) r ⌝ }
 {
     let mut bytes = [0u8; Limits::BOOK];
     let q = put_front(book, &mut bytes);

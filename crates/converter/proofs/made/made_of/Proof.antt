@@ -2,7 +2,8 @@
 use Prim.Native.Nat.{ℕ}
 use lib.ListN.{replicate, length-replicate}
 use Rattle.limits.specs.Sizes.{mostBookBytes}
-use Rattle.converter.proofs.ConvertWays.{size-is, bytes-are}
+use Rattle.converter.proofs.ConvertWays.{all-made}
+use Rattle.converter.proofs.ScanWays.{counted-put}
 use borrow.Author.Needs.{needs}
 use Rattle.converter.proofs.made.made_of.Statement.{statement}
 use Rattle.converter.proofs.made.made_of.Tie as tie
@@ -37,13 +38,8 @@ put-two-requires c κs = search needs
 returns : tie.Need-returns
 returns c =
     let a = c .before .before .before .before .before .before .before .before .args in
-    let first = c .before .before .before .before .before .put-front .ensures in
     let then = rw (c .before .before .before .before .number .ensures .0) at (c .before .before .put-items .ensures) in
-    let book = a .book .now in
-    let ends = a .ends .now in (
-      size-is book ends (first .0) (then .0),
-      λ fits. bytes-are book ends (first .0) (then .0) (replicate mostBookBytes 0) _ _ _ (length-replicate {A = ℕ} mostBookBytes 0) (first .2) fits (then .2 fits) (c .put-two .ensures),
-    )
+    all-made (a .book .now) (a .ends .now) (replicate mostBookBytes 0) _ (length-replicate {A = ℕ} mostBookBytes 0) (c .before .before .before .before .before .put-front .ensures) (counted-put _ then (c .put-two .ensures))
 
 pub made-of-spec : {M : Type 1} → statement M
 made-of-spec =

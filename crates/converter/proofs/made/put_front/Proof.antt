@@ -30,8 +30,7 @@ add-result c = search needs
 returns : tie.Need-returns
 returns c =
     let a = c .before .before .before .before .before .before .before .args in
-    let put = front-put (a .book .now) (a .made .now) _ (c .before .before .before .before .part-of .ensures ∙ rw (c .before .before .before .before .before .number .ensures .0)) (c .before .before .put-byte .ensures) (c .put-part .ensures) in
-    (put .0, omega (arith, put .1), put .2)
+    front-put (a .book .now) (a .made .now) _ (omega arith) (c .before .before .before .before .part-of .ensures ∙ rw (c .before .before .before .before .before .number .ensures .0)) (c .before .before .put-byte .ensures) (c .put-part .ensures)
 
 pub put-front-spec : {M : Type 1} → statement M
 put-front-spec =

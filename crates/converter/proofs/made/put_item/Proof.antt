@@ -1,8 +1,6 @@
 -- `put_item` meets its contract: the tree is put, and then its length in front of it.
-use Prim.Native.Nat.{_+_}
 use native.Mathlib.Omega.{arith}
-use Rattle.converter.specs.Scan.{spots}
-use Rattle.converter.proofs.ScanWays.{counted-long, counted-put}
+use Rattle.converter.proofs.ScanWays.{counted-put}
 use borrow.Author.Needs.{needs}
 use Rattle.converter.proofs.made.put_item.Statement.{statement}
 use Rattle.converter.proofs.made.put_item.Tie as tie
@@ -27,11 +25,8 @@ put-two-requires c κs = search needs
 
 returns : tie.Need-returns
 returns c =
-    let a = c .before .before .before .before .before .args in
-    let xs = spots (a .book .now) (a .ends .now) (a .e) (a .p + 2) in
-    let put = c .before .before .put-spots .ensures in
-    let r = c .before .before .put-spots .result in
-    (counted-long (a .made .now) (a .q) r xs (put .0), omega (arith, put .1), λ fits. counted-put (a .made .now) (a .q) r xs (put .0) fits _ _ (put .2) (c .put-two .ensures))
+    let put = counted-put _ (c .before .before .put-spots .ensures) (c .put-two .ensures) in
+    record { behind = put .behind; near = omega (arith, put .near); put = put .put }
 
 pub put-item-spec : {M : Type 1} → statement M
 put-item-spec =

@@ -7,8 +7,7 @@ use lib.ListN.{length}
 use lib.Seq.{sets}
 use Rattle.limits.specs.Sizes.{mostBookBytes}
 use Rattle.writer.proofs.Putting.{left-length, left-put}
-use Rattle.converter.specs.Written.{counted}
-use Rattle.converter.specs.Scan.{spots, items}
+use Rattle.converter.specs.Scan.{itemTo, items}
 use Rattle.converter.proofs.ScanWays.{items-none, items-more}
 use borrow.Author.Needs.{needs}
 use Rattle.converter.proofs.made.put_items.Statement.{statement}
@@ -49,14 +48,14 @@ loop-again c =
     let ends = a .ends .now in
     let e = l .old + 2 + c .before .before .number .result in
     let put = c .put-item .ensures in
-    let now = counted (spots book ends e (l .old + 2)) in
+    let now = itemTo book ends e (l .old) in
     let then = items book ends e in
     let split : items book ends (l .old) ≡ now ++ then = items-more book ends (l .old) (omega arith) ∙ rw (c .before .before .number .ensures .0) in (
       omega arith,
       omega arith,
-      omega (arith, put .1),
-      omega (arith, put .0, left-length _ now then split),
-      λ fits. left-put _ now then split (l .made) (l .new) _ _ (put .2 fits) (put .0) ∙ l .inv .4 (omega (arith, put .0)),
+      omega (arith, put .near),
+      omega (arith, put .behind, left-length _ now then split),
+      λ fits. left-put _ now then split (l .made) (l .new) _ _ (put .put fits) (put .behind) ∙ l .inv .4 (omega (arith, put .behind)),
     )
 
 returns : tie.Need-returns Inv-loop μ-loop
@@ -64,7 +63,7 @@ returns c =
     let a = c .before .before .before .args in
     let l = c .before .loop in
     let none = items-none (a .book .now) (a .ends .now) (l .old) (c .loop-test .left) in
-    (omega (arith, ap length none), omega arith, λ fits. rw none at (l .inv .4 fits))
+    record { behind = omega (arith, ap length none); near = omega arith; put = λ fits. rw none at (l .inv .4 fits) }
 
 pub put-items-spec : {M : Type 1} → statement M
 put-items-spec =

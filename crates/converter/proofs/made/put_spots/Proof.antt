@@ -32,7 +32,7 @@ loop-less : tie.Need-loop-less Inv-loop μ-loop
 loop-less c =
     let a = c .before .before .before .before .before .before .args in
     let l = c .before .before .before .before .loop in
-    omega (arith, c .put-spot .ensures .0, onward (a .book .now) (a .ends .now) (l .at .old) .more)
+    omega (arith, c .put-spot .ensures .old, onward (a .book .now) (a .ends .now) (l .at .old) .more)
 
 loop-again : tie.Need-loop-again Inv-loop μ-loop
 loop-again c =
@@ -44,12 +44,12 @@ loop-again c =
     let put = c .put-spot .ensures in
     let now = spotBytes book ends (l .at .old) in
     let then = spots book ends (a .e) (c .put-spot .result .old) in
-    let split : spots book ends (a .e) (l .at .old) ≡ now ++ then = spots-more book ends (a .e) (l .at .old) (omega arith) ∙ rw (put .0) in (
-      omega (arith, put .0, far .more),
-      omega (arith, put .0, far .near),
-      omega (arith, put .0, put .1, far .few),
-      omega (arith, put .1, left-length _ now then split),
-      left-put _ now then split (l .made) (l .at .new) _ _ (put .2) (put .1) ∙ l .inv .4,
+    let split : spots book ends (a .e) (l .at .old) ≡ now ++ then = spots-more book ends (a .e) (l .at .old) (omega arith) ∙ rw (put .old) in (
+      omega (arith, put .old, far .more),
+      omega (arith, put .old, far .near),
+      omega (arith, put .old, put .new, far .few),
+      omega (arith, put .new, left-length _ now then split),
+      left-put _ now then split (l .made) (l .at .new) _ _ (put .put) (put .new) ∙ l .inv .4,
     )
 
 returns : tie.Need-returns Inv-loop μ-loop
@@ -57,7 +57,7 @@ returns c =
     let a = c .before .before .before .before .args in
     let l = c .before .before .loop in
     let none = spots-none (a .book .now) (a .ends .now) (a .e) (l .at .old) (c .if1 .left) in
-    (omega (arith, ap length none), omega arith, rw none at (l .inv .4))
+    record { behind = omega (arith, ap length none); near = omega arith; put = λ fits. rw none at (l .inv .4) }
 
 pub put-spots-spec : {M : Type 1} → statement M
 put-spots-spec =
