@@ -1,6 +1,4 @@
 // Reads a book from standard input, behind its two-byte length, converts it to version 2, and prints the result and the new book in hexadecimal.
-ghost use Prim.Native.Nat.{_<_, _≤_};
-ghost use lib.ListN.{length};
 use converter::convert_book;
 use limits::Limits;
 use reading::number;
@@ -42,15 +40,11 @@ fn show_item(n: u64) {
     io::print_decimal(1, n);
 }
 
-// Bytes in hexadecimal, some to a line.
+// Bytes in hexadecimal, line by line; the last may have fewer.
 fn show_bytes(bytes: &[u8]) {
     let mut p: usize = 0;
     while p < bytes.len() {
-        let end = if bytes.len() - p < LINE {
-            bytes.len()
-        } else {
-            p + LINE
-        };
+        let end = p + LINE;
         show_line(part_of(bytes, p, end));
         p = end;
     }
