@@ -88,6 +88,7 @@ module _ (bs room : List ℕ) where
       unfolding convert
       admitted-laid bytes read = rw (scanned-is bs bytes read, convert, old-is, read)
 
-      pub converted-laid : Bytes bs → {n p : ℕ} {ends : List ℕ} → got n p ≡ keeping (λ (x : Rules). length (x .symbols)) (readBook bs) → ends ≡ endsAfter (readBook bs)
+      pub converted-laid : Bytes bs → {n p : ℕ} {ends : List ℕ} → got n p ≡ keeping (λ (x : Rules). length (x .symbols)) (readBook bs)
+          → ends ≡ endsAfter (readBook bs)
           → laid (scanned bs ends) room ≡ convert bs room
       converted-laid bytes told marked = rw marked (admitted-laid bytes (kept-got _ (readBook bs) told .1))

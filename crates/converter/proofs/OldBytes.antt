@@ -19,7 +19,8 @@ use Rattle.symbols.specs.Symbols.{Symbol, Symbols, symbolOf}
 use Rattle.symbols.specs.SymbolPart.{symbolAt, symbolsAt, opened, symbolPart}
 use Rattle.symbols.proofs.Parts.{sorts-good, symbols-none, symbols-next}
 use Rattle.expressions.specs.Expressions.{Expr, Exprs, exprBytes}
-use Rattle.expressions.specs.ExpressionAt.{Left, leaving, ExprReader, nodeAt, variableAt, rowWith, choiceAt, appliedAt, applyAt, sharedAt, codeAt, exprAt, wholeAt, wholeExprAt}
+use Rattle.expressions.specs.ExpressionAt.{Left, leaving, ExprReader, nodeAt, variableAt, rowWith, choiceAt, appliedAt, applyAt, sharedAt, codeAt, exprAt}
+use Rattle.expressions.specs.ExpressionAt.{wholeAt, wholeExprAt}
 use Rattle.expressions.proofs.Extents.{whole-extent}
 use Rattle.writer.specs.Exact.{Bytes}
 use Rattle.writer.proofs.ExprRows.{two-laid}
@@ -87,16 +88,19 @@ module _ (bs : List ℕ) (bytes : Bytes bs) (S : Symbols) (e : ℕ) (fits : e �
         then-good (byte-good bs 0 e (p + 1)) λ x q is. unless _ _ _ λ _ _. unless _ _ _ λ _ _.
         good (read-then (read-byte (omega arith) code refl) (read-byte (omega (arith, is .1, is .2)) (is .0) (is .1)))
 
-    apply-reads : (expr : ExprReader) → Reads expr → (s left : ℕ) → 1 ≡ getD bs p 0 → Good (λ x q. Read bs p q (exprWritten (x .what))) (applyAt bs 0 S e expr s left p)
+    apply-reads : (expr : ExprReader) → Reads expr → (s left : ℕ) → 1 ≡ getD bs p 0
+        → Good (λ x q. Read bs p q (exprWritten (x .what))) (applyAt bs 0 S e expr s left p)
     unfolding applyAt appliedAt exprWritten
     apply-reads expr reads s left code =
         then-good {P = λ f q. Read bs (p + 1) q (twoBytes f)}
-        (then-good (number-good bs 0 e (p + 1)) λ f q is. unless _ _ _ λ _ _. unless _ _ _ λ _ _. good (read-two bytes (omega (arith, is .1, is .2)) (is .0) (is .1)))
+        (then-good (number-good bs 0 e (p + 1)) λ f q is. unless _ _ _ λ _ _. unless _ _ _ λ _ _.
+        good (read-two bytes (omega (arith, is .1, is .2)) (is .0) (is .1)))
         λ f q symbol.
         then-good (row-reads expr reads (symbolOf S f .arguments) left q) λ r t row.
         good (read-then (read-byte (omega arith) code refl) (read-then symbol row))
 
-    choice-reads : (expr : ExprReader) → Reads expr → (s left : ℕ) → 2 ≡ getD bs p 0 → Good (λ x q. Read bs p q (exprWritten (x .what))) (choiceAt expr s left p)
+    choice-reads : (expr : ExprReader) → Reads expr → (s left : ℕ) → 2 ≡ getD bs p 0
+        → Good (λ x q. Read bs p q (exprWritten (x .what))) (choiceAt expr s left p)
     unfolding choiceAt exprWritten
     choice-reads expr reads s left code =
         then-good (reads s left (p + 1)) λ a q first.
@@ -173,7 +177,8 @@ module _ (bs : List ℕ) (e : ℕ) (fits : e ≤ length bs) where
       let arguments = read-many {bs = bs} {p = p + 3} {q = q} (n - 2) (omega arith) (read .behind) in
       good (
         rw (first, kind-same (getD bs (p + 1) 0) (ltb-false 1 _ kind)) (read-then (read-byte {p = p} {q = p + 1} (omega arith) refl refl)
-            (read-then (read-byte {p = p + 1} {q = p + 2} (omega arith) refl (omega arith)) (read-then (read-byte {p = p + 2} {q = p + 3} (omega arith) refl (omega arith)) (rw (← read .same) at arguments)))),
+            (read-then (read-byte {p = p + 1} {q = p + 2} (omega arith) refl (omega arith))
+            (read-then (read-byte {p = p + 2} {q = p + 3} (omega arith) refl (omega arith)) (rw (← read .same) at arguments)))),
         omega (arith, read .behind),
       )
 
@@ -199,7 +204,8 @@ opened-is bs =
     good (omega (arith, part .0), part .1 ∙ rw first, part .2)
 
 -- the symbol part, behind its length
-pub part-reads : (bs : List ℕ) → Bytes bs → Good (λ S q. (partOf bs 1 (3 + bigEndian bs 1) ≡ counted (symbolsWritten S)) × (q ≡ 3 + bigEndian bs 1)) (symbolPart bs)
+pub part-reads : (bs : List ℕ) → Bytes bs
+    → Good (λ S q. (partOf bs 1 (3 + bigEndian bs 1) ≡ counted (symbolsWritten S)) × (q ≡ 3 + bigEndian bs 1)) (symbolPart bs)
 unfolding symbolPart counted
 part-reads bs bytes =
     then-good (opened-is bs) λ e q start.

@@ -40,13 +40,15 @@ module _ (bs ends : List ℕ) (p : ℕ) where
   unfolding spotOf behindOf
   exempt-put was q code first second = record { old = rw code; new = rw code; put = rw (code, second, first, add-one q) }
 
-  pub rule-put : (was : List ℕ) (q : ℕ) (rule : List ℕ) {one two : List ℕ} → getD bs p 0 ≡ 1 → rule ≡ ruleAt bs ends p → one ≡ set was q 1 → two ≡ sets one (q + 1) rule
+  pub rule-put : (was : List ℕ) (q : ℕ) (rule : List ℕ) {one two : List ℕ} → getD bs p 0 ≡ 1 → rule ≡ ruleAt bs ends p → one ≡ set was q 1
+      → two ≡ sets one (q + 1) rule
       → SpotOf was q (p + 1 + length rule) (q + 1 + length rule) two
   unfolding spotOf behindOf
   rule-put was q rule code same first second =
       record { old = rw (code, same); new = rw (code, same) (omega arith); put = rw (code, second, first, same, add-one q) }
 
-  pub branch-put : (was : List ℕ) (q : ℕ) {x : ℕ} {one two : List ℕ} → (getD bs p 0 ≡ 0 → ⊥) → (getD bs p 0 ≡ 1 → ⊥) → x ≡ getD bs (p + 1) 0 → one ≡ set was q 2 → two ≡ set one (q + 1) x
+  pub branch-put : (was : List ℕ) (q : ℕ) {x : ℕ} {one two : List ℕ} → (getD bs p 0 ≡ 0 → ⊥) → (getD bs p 0 ≡ 1 → ⊥) → x ≡ getD bs (p + 1) 0
+      → one ≡ set was q 2 → two ≡ set one (q + 1) x
       → SpotOf was q (p + 2) (q + 2) two
   unfolding spotOf behindOf
   branch-put was q {x} {one} {two} some other same first second = by (getD bs p 0) refl
@@ -84,7 +86,8 @@ module _ (bs ends : List ℕ) where
   spots-any (suc n) zero e p h k = rw (spotsIn, le-ltb p e (omega arith))
   spots-any (suc n) (suc m) e p h k =
       let far = onward bs ends p .more in
-      ap (λ (rest : List ℕ). elim (ltb p e) [ false ↦ [] | true ↦ spotBytes bs ends p ++ rest ]) (spots-any n m e (spotBehind bs ends p) (omega arith) (omega arith))
+      ap (λ (rest : List ℕ). elim (ltb p e) [ false ↦ [] | true ↦ spotBytes bs ends p ++ rest ])
+      (spots-any n m e (spotBehind bs ends p) (omega arith) (omega arith))
 
   pub spots-none : (e p : ℕ) → e ≤ p → spots bs ends e p ≡ []
   unfolding spotsIn
@@ -95,7 +98,8 @@ module _ (bs ends : List ℕ) where
   spots-more e p h =
       let far = onward bs ends p .more in
       spots-any (e - p) (suc (e - p)) e p (omega arith) (omega arith)
-      ∙ rw (spotsIn, lt-ltb p e h) (ap (_++_ (spotBytes bs ends p)) (spots-any (e - p) (e - spotBehind bs ends p) e (spotBehind bs ends p) (omega arith) (omega arith)))
+      ∙ rw (spotsIn, lt-ltb p e h) (ap (_++_ (spotBytes bs ends p))
+      (spots-any (e - p) (e - spotBehind bs ends p) e (spotBehind bs ends p) (omega arith) (omega arith)))
 
   -- ---- the items
 

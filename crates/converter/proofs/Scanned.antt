@@ -89,7 +89,8 @@ module _ (bs : List ℕ) (bytes : Bytes bs) (S : Symbols) (sort e : ℕ) (fits :
   unfolding treeCodeAt branchAt treeBytes treeWritten withoutExempt exprWritten Ended
   code-scans tree scans zero vars done p h code =
       unless _ _ _ λ _ _.
-      good {a = Tree.exempt} {p = p + 1} (record { size = refl; within = omega arith; scan = λ ends marks e′ to. exempt-spot bs ends e′ p (omega arith) (sym code) })
+      good {a = Tree.exempt} {p = p + 1}
+      (record { size = refl; within = omega arith; scan = λ ends marks e′ to. exempt-spot bs ends e′ p (omega arith) (sym code) })
   code-scans tree scans (suc zero) vars done p h code =
       then-good (whole-reads bs bytes S e fits vars sort (p + 1)) λ x q is.
       good (record {
@@ -121,7 +122,8 @@ module _ (bs : List ℕ) (bytes : Bytes bs) (S : Symbols) (sort e : ℕ) (fits :
 -- ---- the items
 
 -- reading goes on either way of a test
-either-good : {A : Type 0} {P : A → ℕ → Type 0} (b : Bool) {r s : Reading A} → (b ≡ false → Good P r) → (b ≡ true → Good P s) → Good P (elim b [ false ↦ r | true ↦ s ])
+either-good : {A : Type 0} {P : A → ℕ → Type 0} (b : Bool) {r s : Reading A} → (b ≡ false → Good P r) → (b ≡ true → Good P s)
+    → Good P (elim b [ false ↦ r | true ↦ s ])
 either-good false failed passed = failed refl
 either-good true failed passed = passed refl
 
@@ -140,7 +142,8 @@ module _ (bs : List ℕ) (bytes : Bytes bs) (S : Symbols) (size : length bs ≤ 
   unfolding itemAt
   item-scans e fits x p =
       then-good (length-is bs e p) λ end q is.
-      then-good (tree-scans bs bytes S (x .sort) end (omega (arith, is .2)) (suc mostVariables) (x .arguments) [] q) λ t r tree. unless _ _ (ltb r end) λ _ whole.
+      then-good (tree-scans bs bytes S (x .sort) end (omega (arith, is .2)) (suc mostVariables) (x .arguments) [] q) λ t r tree.
+      unless _ _ (ltb r end) λ _ whole.
       let last : itemEnd bs [] p ≡ r = omega (arith, is .1, tree .within, ltb-false r end whole) in
       let first : q ≡ p + 2 = is .0 in
       good (record {
@@ -156,17 +159,21 @@ module _ (bs : List ℕ) (bytes : Bytes bs) (S : Symbols) (size : length bs ≤ 
   constructor-scans : (x : Symbol) (rest : Symbols) (p : ℕ) (ts : Trees) (q : ℕ) → x .isOperation ≡ false → ItemsScan bs p rest ts q
       → ItemsScan bs p (x ∷ rest) (Trees.moreTrees Tree.exempt ts) q
   unfolding endsFrom itemsWritten treesConverted
-  constructor-scans x rest p ts q none more ends ends′ room alike = rw (none, itemsWritten) (more ends ends′ room (λ i from. alike i from ∙ rw (none, endsFrom)))
+  constructor-scans x rest p ts q none more ends ends′ room alike =
+      rw (none, itemsWritten) (more ends ends′ room (λ i from. alike i from ∙ rw (none, endsFrom)))
 
   -- an operation's stands in front of the others
-  operation-scans : (x : Symbol) (rest : Symbols) (e p : ℕ) (t : Tree) (m : ℕ) (ts : Trees) (q : ℕ) → x .isOperation ≡ true → e ≤ length bs → ItemScan e p t m → ItemsScan bs m rest ts q
+  operation-scans : (x : Symbol) (rest : Symbols) (e p : ℕ) (t : Tree) (m : ℕ) (ts : Trees) (q : ℕ) → x .isOperation ≡ true → e ≤ length bs
+      → ItemScan e p t m → ItemsScan bs m rest ts q
       → ItemsScan bs p (x ∷ rest) (Trees.moreTrees t ts) q
   unfolding endsFrom itemsWritten treesConverted
   operation-scans x rest e p t m ts q is fits first more ends ends′ room alike =
       let next = first .behind in
-      let own : (i : ℕ) → p ≤ i → getD ends′ i 0 ≡ getD (endsFrom m rest ts (markTree (p + 2) t ends)) i 0 = λ i from. alike i from ∙ rw (is, endsFrom, ← next) in
+      let own : (i : ℕ) → p ≤ i → getD ends′ i 0 ≡ getD (endsFrom m rest ts (markTree (p + 2) t ends)) i 0 =
+      λ i from. alike i from ∙ rw (is, endsFrom, ← next) in
       let marks : Ended ends′ (p + 2) t =
-      ended t (p + 2) ends ends′ (omega (arith, first .within)) (λ i from to. own i (omega arith) ∙ ends-low m rest ts (markTree (p + 2) t ends) i (omega arith)) in
+      ended t (p + 2) ends ends′ (omega (arith, first .within))
+      (λ i from to. own i (omega arith) ∙ ends-low m rest ts (markTree (p + 2) t ends) i (omega arith)) in
       let others = more (markTree (p + 2) t ends) ends′ (omega (arith, mark-length t (p + 2) ends)) (λ i from. own i (omega arith)) in
       rw (is, itemsWritten, is) (first .scan ends′ marks ∙ ap (_++_ (counted (treeWritten (withoutExempt t)))) others
       ∙ sym (append-assoc (counted (treeWritten (withoutExempt t))) (itemsWritten rest (treesConverted rest ts)) (items bs ends′ q)))

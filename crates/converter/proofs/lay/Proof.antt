@@ -13,6 +13,9 @@ use Rattle.converter.proofs.lay.Statement.{statement}
 use Rattle.converter.proofs.lay.Tie as tie
 
 module _ (c : tie.After-made-of) where
+  abbrev lent : List ℕ
+  lent = c .before .before .before .args .room .now
+
   -- the bytes of the new book
   abbrev new : List ℕ
   new = let a = c .before .before .before .args in scanned (a .book .now) (a .ends .now)
@@ -32,7 +35,7 @@ refused-requires c κs = search needs
 returns : tie.Need-returns
 returns c =
     let made = c .before .before in
-    rw (c .refused .ensures) (too-large (new made) (made .before .before .before .args .room .now) (made .made-of .ensures .size) (c .before .if1 .taken))
+    rw (c .refused .ensures) (too-large (new made) (lent made) (made .made-of .ensures .size) (c .before .if1 .taken))
 
 refused-requires-2 : tie.Need-refused-requires-2
 refused-requires-2 c κs = search needs
@@ -40,7 +43,7 @@ refused-requires-2 c κs = search needs
 returns-2 : tie.Need-returns-2
 returns-2 c =
     let made = c .before .before .before in
-    rw (c .refused2 .ensures) (no-room (new made) (made .before .before .before .args .room .now) (made .made-of .ensures .size) (c .before .before .if1 .left) (c .before .if2 .taken))
+    rw (c .refused2 .ensures) (no-room (new made) (lent made) (made .made-of .ensures .size) (c .before .before .if1 .left) (c .before .if2 .taken))
 
 sub-copy : tie.Need-sub-copy
 sub-copy c = search needs
@@ -62,7 +65,8 @@ returns-3 c =
     let made = c .before .before .before .before .before .before .before .before .before in
     let small = c .before .before .before .before .before .before .before .before .if1 .left in
     let copied = rw sub-zero at (c .before .before .copy .ensures) in
-    book-laid (new made) (made .before .before .before .args .room .now) (made .made-of .ensures .size) small (c .before .before .before .before .before .before .before .if2 .left) (made .made-of .ensures .bytes small) copied
+    let enough = c .before .before .before .before .before .before .before .if2 .left in
+    book-laid (new made) (lent made) (made .made-of .ensures .size) small enough (made .made-of .ensures .bytes small) copied
 
 pub lay-spec : {M : Type 1} → statement M
 lay-spec =

@@ -39,7 +39,9 @@ returns : tie.Need-returns
 returns c =
     let a = c .before .before .before .before .before .before .before .before .args in
     let then = rw (c .before .before .before .before .number .ensures .0) at (c .before .before .put-items .ensures) in
-    all-made (a .book .now) (a .ends .now) (replicate mostBookBytes 0) _ (length-replicate {A = ℕ} mostBookBytes 0) (c .before .before .before .before .before .put-front .ensures) (counted-put _ then (c .put-two .ensures))
+    let zeros = length-replicate {A = ℕ} mostBookBytes 0 in
+    let first = c .before .before .before .before .before .put-front .ensures in
+    all-made (a .book .now) (a .ends .now) (replicate mostBookBytes 0) _ zeros first (counted-put _ then (c .put-two .ensures))
 
 pub made-of-spec : {M : Type 1} → statement M
 made-of-spec =

@@ -22,7 +22,8 @@ put-byte-requires c κs = search needs
 put-part-requires : tie.Need-put-part-requires
 put-part-requires c κs =
     let a = c .before .before .before .before .before .before .args in
-    (omega arith, rw (c .before .before .before .part-of .ensures) (omega (arith, part-short (a .book .now) 1 (3 + c .before .before .before .before .number .result))))
+    let short = part-short (a .book .now) 1 (3 + c .before .before .before .before .number .result) in
+    (omega arith, rw (c .before .before .before .part-of .ensures) (omega (arith, short)))
 
 add-result : tie.Need-add-result
 add-result c = search needs
@@ -30,7 +31,8 @@ add-result c = search needs
 returns : tie.Need-returns
 returns c =
     let a = c .before .before .before .before .before .before .before .args in
-    front-put (a .book .now) (a .made .now) _ (omega arith) (c .before .before .before .before .part-of .ensures ∙ rw (c .before .before .before .before .before .number .ensures .0)) (c .before .before .put-byte .ensures) (c .put-part .ensures)
+    let part = rw (c .before .before .before .before .before .number .ensures .0) at (c .before .before .before .before .part-of .ensures) in
+    front-put (a .book .now) (a .made .now) _ (omega arith) part (c .before .before .put-byte .ensures) (c .put-part .ensures)
 
 pub put-front-spec : {M : Type 1} → statement M
 put-front-spec =

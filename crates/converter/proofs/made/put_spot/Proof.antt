@@ -28,7 +28,8 @@ add-t13 c = search needs
 returns : tie.Need-returns
 returns c =
     let a = c .before .before .before .before .before .before .before .args in
-    exempt-put (a .book .now) (a .ends .now) (a .p) (a .made .now) (a .q) (sym (c .before .before .before .before .before .byte .ensures) ∙ c .before .before .before .before .if1 .taken) (c .before .before .put-byte .ensures) (c .put-byte2 .ensures)
+    let code = sym (c .before .before .before .before .before .byte .ensures) ∙ c .before .before .before .before .if1 .taken in
+    exempt-put (a .book .now) (a .ends .now) (a .p) (a .made .now) (a .q) code (c .before .before .put-byte .ensures) (c .put-byte2 .ensures)
 
 add-part-of : tie.Need-add-part-of
 add-part-of c = search needs
@@ -66,7 +67,10 @@ add-t24 c = search needs
 returns-2 : tie.Need-returns-2
 returns-2 c =
     let a = c .before .before .before .before .before .before .before .before .before .before .before .args in
-    rule-put (a .book .now) (a .ends .now) (a .p) (a .made .now) (a .q) _ (sym (c .before .before .before .before .before .before .before .before .before .byte .ensures) ∙ c .before .before .before .before .before .before .before .if2 .taken) (c .before .before .before .before .part-of .ensures ∙ rw (c .before .before .before .before .before .end-of .ensures)) (c .before .before .put-byte3 .ensures) (c .put-part .ensures)
+    let code = sym (c .before .before .before .before .before .before .before .before .before .byte .ensures)
+    ∙ c .before .before .before .before .before .before .before .if2 .taken in
+    let rule = rw (c .before .before .before .before .before .end-of .ensures) at (c .before .before .before .before .part-of .ensures) in
+    rule-put (a .book .now) (a .ends .now) (a .p) (a .made .now) (a .q) _ code rule (c .before .before .put-byte3 .ensures) (c .put-part .ensures)
 
 put-byte-requires-4 : tie.Need-put-byte-requires-4
 put-byte-requires-4 c κs = search needs
@@ -93,7 +97,9 @@ returns-3 : tie.Need-returns-3
 returns-3 c =
     let a = c .before .before .before .before .before .before .before .before .before .args in
     let code = c .before .before .before .before .before .before .before .byte .ensures in
-    branch-put (a .book .now) (a .ends .now) (a .p) (a .made .now) (a .q) (λ is. c .before .before .before .before .before .before .if1 .left (code ∙ is)) (λ is. c .before .before .before .before .before .if2 .left (code ∙ is))
+    let no-exempt = c .before .before .before .before .before .before .if1 .left in
+    let no-rule = c .before .before .before .before .before .if2 .left in
+    branch-put (a .book .now) (a .ends .now) (a .p) (a .made .now) (a .q) (λ is. no-exempt (code ∙ is)) (λ is. no-rule (code ∙ is))
     (c .before .byte2 .ensures) (c .before .before .before .put-byte4 .ensures) (c .put-byte5 .ensures)
 
 pub put-spot-spec : {M : Type 1} → statement M
