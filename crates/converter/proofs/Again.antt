@@ -1,4 +1,4 @@
--- An expression that was read is read again, to the same, from the bytes that it is written as: wherever they stand in a book of edition 2.
+-- An expression that was read is read again, to the same, from the bytes that it is written as: wherever they stand in a version 2 book.
 use mathlib.Core.Bool.{false, not}
 use mathlib.Core.Path.{_≡_, refl, ap, subst, _∙_}
 use mathlib.Core.List.{List, [], _∷_, _++_}
@@ -14,7 +14,8 @@ use Rattle.reading.proofs.Good.{Good, good, refused, each, then-good, unless}
 use Rattle.reading.proofs.Keeping.{then-got, passed}
 use Rattle.symbols.specs.Symbols.{Symbols, symbolOf}
 use Rattle.expressions.specs.Expressions.{Expr, Exprs}
-use Rattle.expressions.specs.ExpressionAt.{Left, leaving, ExprReader, nodeAt, variableAt, rowWith, choiceAt, appliedAt, applyAt, sharedAt, codeAt, exprAt, wholeAt, wholeExprAt}
+use Rattle.expressions.specs.ExpressionAt.{Left, leaving, ExprReader, nodeAt, variableAt, rowWith, choiceAt, appliedAt, applyAt, sharedAt, codeAt, exprAt}
+use Rattle.expressions.specs.ExpressionAt.{wholeAt, wholeExprAt}
 use Rattle.converter.specs.Written.{exprWritten, rowWritten}
 use Rattle.converter.proofs.Standing.{land, Stands, stands-front, stands-behind, stands-next, byte-again, two-long, number-again, stands-two}
 
@@ -42,7 +43,8 @@ module _ (bs : List ℕ) (e : ℕ) (cs : List ℕ) (second : versionOf cs ≡ 2)
   abbrev Reads : List ℕ → ExprReader → Type 0
   Reads vars expr = (s left p : ℕ) → Good (λ x q. Again vars s left x) (expr s left p)
 
-  row-again : (vars : List ℕ) (expr : ExprReader) → Reads vars expr → (ss : List ℕ) (left p : ℕ) → Good (λ r q. RowAgain vars ss left r) (rowWith expr ss left p)
+  row-again : (vars : List ℕ) (expr : ExprReader) → Reads vars expr → (ss : List ℕ) (left p : ℕ)
+      → Good (λ r q. RowAgain vars ss left r) (rowWith expr ss left p)
   unfolding rowWith rowWritten
   row-again vars expr reads [] left p = good {a = leaving left Exprs.noExprs} {p = p} λ d e′ p′ enough s. land refl (omega arith)
   row-again vars expr reads (s ∷ ss) left p =

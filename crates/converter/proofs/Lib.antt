@@ -4,3 +4,8 @@ pub mod Again
 pub mod TreesAgain
 pub mod SymbolsAgain
 pub mod Same
+pub mod ScanWays
+pub mod OldBytes
+pub mod Marks
+pub mod Scanned
+pub mod ConvertWays

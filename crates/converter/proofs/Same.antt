@@ -2,19 +2,19 @@
 use mathlib.Core.Bool.{true, false, not}
 use mathlib.Core.Path.{_≡_, refl, sym, ap, _∙_}
 use mathlib.Core.List.{List, [], _∷_, _++_, append-nil}
-use Prim.Native.Nat.{ℕ, zero, suc, _+_, _≤_, _<_}
+use Prim.Native.Nat.{ℕ, zero, suc, _+_, _-_, _≤_, _<_}
 use native.Mathlib.Omega.{arith}
-use borrow.Author.Tests.{lt-ltb, not-false}
+use borrow.Author.Tests.{lt-ltb, ltb-false, eqb-false, not-false}
 use lib.Dec.{ltb, eqb}
-use lib.ListN.{length, length-append}
+use lib.ListN.{length, getD, length-append}
 use lib.Seq.{drop-at}
 use Rattle.limits.specs.Sizes.{mostBookBytes}
 use Rattle.reading.specs.Reading.{Reading, got, refusal, _then_}
-use Rattle.reading.specs.Bytes.{twoBytes}
-use Rattle.reading.proofs.Good.{Good, good, good-got, then-good, unless, whenever}
+use Rattle.reading.specs.Bytes.{versionOf, twoBytes}
+use Rattle.reading.proofs.Good.{Good, good, good-got, then-good, unless, whenever, byte-good, length-good}
 use Rattle.reading.proofs.Keeping.{then-got, then-refusal, failed-test}
 use Rattle.symbols.specs.Symbols.{Symbols, symbolOf, noSymbol, constructorsBefore}
-use Rattle.symbols.specs.SymbolPart.{opened, symbolPart}
+use Rattle.symbols.specs.SymbolPart.{symbolsAt, opened, symbolPart}
 use Rattle.symbols.proofs.Parts.{part-got}
 use Rattle.expressions.specs.Expressions.{Expr}
 use Rattle.book.specs.Trees.{Tree, Trees, treeAt}
@@ -26,7 +26,7 @@ use Rattle.machine.specs.Run.{Memory, Outcome, roomsOf, refusedAt, endedAs, run
 use Rattle.converter.specs.Written.{counted, symbolsWritten, itemsWritten, bookWritten}
 use Rattle.converter.specs.Converted.{withoutExempt, withoutExempts, treesConverted, converted}
 use Rattle.converter.specs.Convert.{readOld, newBook}
-use Rattle.converter.specs.Same.{SameRuns, AdmittedIfFits}
+use Rattle.converter.specs.Same.{SameRuns, AdmittedIfFits, Replaces}
 use Rattle.converter.proofs.Turning.{Tamed, TamedRow, turns-same}
 use Rattle.converter.proofs.Standing.{Stands, two-long}
 use Rattle.converter.proofs.TreesAgain.{part-again}
@@ -126,3 +126,37 @@ same-runs bs r p old fits question fuel m =
         (elim q [ refusal c b ↦ refusedAt c b m | got x _ ↦ runLoaded (bookOf r) fuel m (loaded x) ])
     asked (refusal c b) = refl
     asked (got x b) = loaded-same r fuel m (loaded x)
+
+-- ---- the old book and the new one
+
+-- an admitted book that is not of version 2 is of version 1
+version-one : (bs : List ℕ) → (versionOf bs ≡ 2 → ⊥) → Good (λ e q. versionOf bs ≡ 1) (opened bs)
+unfolding opened
+version-one bs other =
+    unless _ _ _ λ _ _. then-good (byte-good bs 0 (length bs) 0) λ version p byte. unless _ _ (eqb version 0) λ _ some. unless _ _ (ltb 2 version) λ _ small.
+    then-good (length-good bs 0 (length bs) p) λ e q _. unless _ _ _ λ _ _.
+    good (one version (byte .0) (eqb-false version 0 some) (ltb-false 2 version small))
+  where
+    one : (version : ℕ) → version ≡ getD bs 0 0 → (version ≡ 0 → ⊥) → version ≤ 2 → versionOf bs ≡ 1
+    one zero same some small = absurd (some refl)
+    one (suc zero) same some small = sym same
+    one (suc (suc version)) same some small = absurd (other (omega arith))
+
+old-version : (bs : List ℕ) → Good (λ r p. versionOf bs ≡ 1) (readOld bs)
+unfolding readOld readBook symbolPart
+old-version bs =
+    unless _ _ _ λ _ _. unless _ _ (eqb (versionOf bs) 2) λ _ other.
+    then-good (then-good (version-one bs (eqb-false (versionOf bs) 2 other)) λ e q one. whenever (symbolsAt bs (e - q) e 0 q) (λ S p is. one)) λ S p one.
+    then-good (whenever (treePart bs S p) (λ ts q is. one)) λ ts q one. good one
+
+pub replaced : (bs : List ℕ) (r : Rules) (p : ℕ) → readOld bs ≡ got r p → length (newBook r) ≤ mostBookBytes → Replaces bs (newBook r)
+unfolding bookWritten
+replaced bs r p old fits = record {
+  rules = r;
+  end = p;
+  admitted = good-got (old-read bs) old;
+  first = good-got (old-version bs) old;
+  second = refl;
+  written = admitted-if-fits bs r p old .0 fits;
+  runs = same-runs bs r p old fits;
+}

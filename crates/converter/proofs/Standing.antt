@@ -69,6 +69,7 @@ unfolding twoBytes
 stands-two n xs s = stands-behind (twoBytes n) xs s
 
 -- a length, of which so many bytes follow before the end
-pub length-again : {cs : List ℕ} {e p : ℕ} (n : ℕ) (xs : List ℕ) → Stands cs e p (twoBytes n ++ xs) → n ≤ length xs → lengthAt cs 0 e p ≡ got (p + 2 + n) (p + 2)
+pub length-again : {cs : List ℕ} {e p : ℕ} (n : ℕ) (xs : List ℕ) → Stands cs e p (twoBytes n ++ xs) → n ≤ length xs
+    → lengthAt cs 0 e p ≡ got (p + 2 + n) (p + 2)
 unfolding twoBytes
 length-again {cs} {e} {p} n xs s le = sym (length-got cs 0 e p (two-again n xs s) (omega (arith, s .within)))

@@ -15,7 +15,8 @@ use Rattle.symbols.specs.Symbols.{Symbol, Symbols, symbolOf}
 use Rattle.symbols.specs.SymbolPart.{sortsAt, symbolAt, symbolsAt, opened, symbolPart}
 use Rattle.symbols.proofs.Parts.{SortsInRange, InRange, symbols-none, symbols-next}
 use Rattle.converter.specs.Written.{counted, kindOf, symbolWritten, symbolsWritten}
-use Rattle.converter.proofs.Standing.{land, Stands, stands-to, stands-front, stands-behind, stands-first, stands-next, byte-again, stands-two, length-again}
+use Rattle.converter.proofs.Standing.{land, Stands, stands-to, stands-front, stands-behind, stands-first, stands-next, byte-again, stands-two}
+use Rattle.converter.proofs.Standing.{length-again}
 
 -- a kind is 0 or 1, and is read back
 kind-small : (b : Bool) → kindOf b ≤ 1

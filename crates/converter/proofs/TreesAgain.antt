@@ -29,7 +29,7 @@ newTree t = treeWritten (withoutExempt t)
 abbrev newTrees : Trees → List ℕ
 newTrees ts = treesWritten (withoutExempts ts)
 
-module _ (bs cs : List ℕ) (edition : versionOf cs ≡ 2) (S : Symbols) where
+module _ (bs cs : List ℕ) (second : versionOf cs ≡ 2) (S : Symbols) where
   -- a rule to fail
   fail-again : (e′ : ℕ) (vars : List ℕ) (s p′ : ℕ) → Stands cs e′ p′ (3 ∷ []) → wholeExprAt cs 0 S e′ vars s p′ ≡ got Expr.fail (p′ + 1)
   unfolding wholeExprAt wholeAt exprAt codeAt nodeAt
@@ -68,7 +68,7 @@ module _ (bs cs : List ℕ) (edition : versionOf cs ≡ 2) (S : Symbols) where
     code-again depth reads zero vars done p = unless _ _ _ λ _ _. good {a = Tree.exempt} λ e′ p′ st.
         land (then-got _ (byte-again st) ∙ then-got _ (fail-again e′ vars s (p′ + 1) (stands-next st))) (omega arith)
     code-again depth reads (suc zero) vars done p =
-        then-good (whole-again bs e cs edition S vars s (p + 1)) λ x q is.
+        then-good (whole-again bs e cs second S vars s (p + 1)) λ x q is.
         good λ e′ p′ st. land (then-got _ (byte-again st) ∙ then-got _ (is e′ (p′ + 1) (stands-next st))) (omega arith)
     code-again depth reads (suc (suc zero)) vars done p =
         then-good {P = λ x q. (leb (length vars) x ≡ false) × (isIn x done ≡ false) × (bindsPast (length vars) (constructorsOf (getD vars x 0) S) ≡ false)}
@@ -108,7 +108,8 @@ module _ (bs cs : List ℕ) (edition : versionOf cs ≡ 2) (S : Symbols) where
   ItemsAgain rest ts = (e′ p′ : ℕ) → Stands cs e′ p′ (newItems rest ts) → treesOf cs S e′ rest p′ ≡ got (treesConverted rest ts) (p′ + length (newItems rest ts))
 
   -- a constructor has none
-  constructor-again : (x : Symbol) (rest : Symbols) (ts : Trees) → x .isOperation ≡ false → ItemsAgain rest ts → ItemsAgain (x ∷ rest) (Trees.moreTrees Tree.exempt ts)
+  constructor-again : (x : Symbol) (rest : Symbols) (ts : Trees) → x .isOperation ≡ false → ItemsAgain rest ts
+      → ItemsAgain (x ∷ rest) (Trees.moreTrees Tree.exempt ts)
   unfolding treesOf treesConverted itemsWritten
   constructor-again x rest ts k is e′ p′ st = rw k (then-got _ (is e′ p′ (rw k at st)))
 
@@ -129,10 +130,11 @@ module _ (bs cs : List ℕ) (edition : versionOf cs ≡ 2) (S : Symbols) where
   items-again e [] p = good {a = Trees.noTrees} λ e′ p′ st. land refl (omega arith)
   items-again e (x ∷ rest) p = by (x .isOperation) refl (λ q. items-again e rest q)
     where
-      by : (t : Bool) → x .isOperation ≡ t → ((q : ℕ) → Good (λ ts r. ItemsAgain rest ts) (treesOf bs S e rest q)) → Good (λ ts q. ItemsAgain (x ∷ rest) ts) (elim t [
-        | false ↦ _then_ (treesOf bs S e rest p) (λ ts r. got (Trees.moreTrees Tree.exempt ts) r)
-        | true ↦ _then_ (itemAt bs S e x p) (λ t q. _then_ (treesOf bs S e rest q) (λ ts r. got (Trees.moreTrees t ts) r))
-      ])
+      by : (t : Bool) → x .isOperation ≡ t → ((q : ℕ) → Good (λ ts r. ItemsAgain rest ts) (treesOf bs S e rest q))
+          → Good (λ ts q. ItemsAgain (x ∷ rest) ts) (elim t [
+            | false ↦ _then_ (treesOf bs S e rest p) (λ ts r. got (Trees.moreTrees Tree.exempt ts) r)
+            | true ↦ _then_ (itemAt bs S e x p) (λ t q. _then_ (treesOf bs S e rest q) (λ ts r. got (Trees.moreTrees t ts) r))
+          ])
       by false k ih = then-good (ih p) λ ts r is. good (constructor-again x rest ts k is)
       by true k ih = then-good (item-again e x p) λ t q first. then-good (ih q) λ ts r is. good (operation-again x rest t ts k first is)
 

@@ -16,7 +16,8 @@ use Rattle.nodes.specs.Forwards.{follow}
 use Rattle.nodes.specs.Steps.{failed}
 use Rattle.machine.specs.Made.{place, rewritten}
 use Rattle.machine.specs.FirstLook.{Seen, someFail, firstChoice, neither, firstLook}
-use Rattle.machine.specs.Walk.{Slot, Found, finished, goes, fails, rewrites, pulls, far, arrowAt, slotsOf, arrive, decide, children, construct, steer, steerAt, walkIn, walk}
+use Rattle.machine.specs.Walk.{Slot, Found, finished, goes, fails, rewrites, pulls, far, arrowAt, slotsOf, arrive, decide, children, construct, steer}
+use Rattle.machine.specs.Walk.{steerAt, walkIn, walk}
 use Rattle.machine.specs.Turn.{Rooms, State, Ended, Turned, whole, refused, split, answered, stepped, done, turnAt, turn, after, turns}
 
 -- two trees, the second of which may have a rule to fail where the first has an exempt
@@ -84,7 +85,8 @@ module _ (C : ℕ → Bool) (P : ℕ → ℕ) (T U : ℕ → Tree) (tamed : (f :
     mutual
       unfolding steer
 
-      steer-like : {t u : Tree} → Tamed t u → (n : ℕ) (vs : List Slot) (arrivals : ℕ) → Like (steer old h into t n vs arrivals) (steer new h into′ u n vs arrivals)
+      steer-like : {t u : Tree} → Tamed t u → (n : ℕ) (vs : List Slot) (arrivals : ℕ)
+          → Like (steer old h into t n vs arrivals) (steer new h into′ u n vs arrivals)
       steer-like Tamed.exempt n vs arrivals = same
       steer-like Tamed.spot n vs arrivals = spot
       steer-like Tamed.rule n vs arrivals = same

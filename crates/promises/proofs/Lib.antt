@@ -2,3 +2,4 @@ pub mod Contracts
 pub mod Kept
 pub mod OneOutcome
 pub mod OneOutcomeOf
+pub mod Converting

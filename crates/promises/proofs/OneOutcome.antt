@@ -28,6 +28,9 @@ use Rattle.writer.specs.Write.{Outcome as Writing}
 use Rattle.writer.specs.InCode.{after as writtenAs}
 use Rattle.nodes.specs.declared.Row.{Row}
 use Rattle.machine.specs.Run.{Memory as LentMemory, Result, Outcome}
+use Rattle.converter.specs.declared.Conversion.{Conversion}
+use Rattle.converter.specs.Convert.{Outcome as Conversions}
+use Rattle.converter.specs.InCode.{after as convertedAs}
 use Rattle.figures.specs.declared.Figured.{Figured}
 use Rattle.figures.specs.Figures.{Outcome as Figures}
 use Rattle.figures.specs.InCode.{after as figuredAs}
@@ -112,6 +115,12 @@ one-written r r′ room room′ one other =
     let same = one-value one other in
     let back : Writing → Written = λ o. record { number = o .result .number; row = o .result .row; bytes = o .result .bytes } in
     (ap back same, ap (λ (o : Writing). o .room) same)
+
+-- what the converter hands back, and the room lent after it
+pub one-converted : {t : Conversions} (r r′ : Conversion) (room room′ : List ℕ) → convertedAs r room ≡ t → convertedAs r′ room′ ≡ t → (r ≡ r′) × (room ≡ room′)
+one-converted r r′ room room′ one other =
+    let same = one-value one other in
+    (ap (λ (o : Conversions). record { number = o .number; place = o .place; bytes = o .bytes }) same, ap (λ (o : Conversions). o .room) same)
 
 -- what the index figures hand back, and the totals after it
 pub one-figured : {t : Figures} (r r′ : Figured) (row row′ : List ℕ) → figuredAs r row ≡ t → figuredAs r′ row′ ≡ t → (r ≡ r′) × (row ≡ row′)

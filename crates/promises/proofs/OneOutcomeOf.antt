@@ -29,6 +29,7 @@ use Rattle.book.proofs.read_book as read-book
 use Rattle.book.proofs.read_question as read-question
 use Rattle.book.proofs.rows_read as rows-read
 use Rattle.writer.proofs.write_book as write-book
+use Rattle.converter.proofs.convert_book as convert-book
 use Rattle.nodes.proofs.Row.apply as row-apply
 use Rattle.nodes.proofs.Row.choice as row-choice
 use Rattle.nodes.proofs.Row.fail as row-fail
@@ -45,7 +46,7 @@ use Rattle.run.proofs.run
 use Rattle.run.proofs.run_owned as run-owned
 use Rattle.promises.proofs.Contracts.{leftBy}
 use Rattle.promises.proofs.OneOutcome.{OneOutcome, OneResult, by-claim, one-value, one-bounded, one-set, one-row, one-reading}
-use Rattle.promises.proofs.OneOutcome.{one-symbol-part, one-index, one-written, one-figured, one-run, one-owned}
+use Rattle.promises.proofs.OneOutcome.{one-symbol-part, one-index, one-written, one-converted, one-figured, one-run, one-owned}
 
 -- crate `limits`
 pub all-open-one : OneResult all-open.ended (λ M. all-open.clauses)
@@ -130,6 +131,10 @@ rows-read-one = by-claim rows-read.ended (λ κs a z z′ e e′. one-bounded)
 -- crate `writer`
 pub write-book-one : OneOutcome write-book.ended (λ κs z z′ e e′. (z ≡ z′) × (now (e .1 .1 .0) ≡ now (e′ .1 .1 .0))) (λ M. write-book.clauses)
 write-book-one = by-claim write-book.ended (λ κs a z z′ e e′. one-written z z′ (now (e .1 .1 .0)) (now (e′ .1 .1 .0)))
+
+-- crate `converter`
+pub convert-book-one : OneOutcome convert-book.ended (λ κs z z′ e e′. (z ≡ z′) × (now (e .1 .0) ≡ now (e′ .1 .0))) (λ M. convert-book.clauses)
+convert-book-one = by-claim convert-book.ended (λ κs a z z′ e e′. one-converted z z′ (now (e .1 .0)) (now (e′ .1 .0)))
 
 -- crate `nodes`
 pub row-apply-one : OneResult row-apply.ended (λ M. row-apply.clauses)

@@ -1,0 +1,55 @@
+-- `show_line` meets its contract: one byte fewer is left after each.
+use Prim.Native.Nat.{_-_}
+use lib.ListN.{length}
+use borrow.Author.Needs.{needs}
+use Rattle.convert.proofs.show_line.Statement.{statement}
+use Rattle.convert.proofs.show_line.Tie as tie
+
+abbrev Inv-loop : tie.InvT-loop
+Inv-loop bytes i₀ t3 i = Unit
+
+abbrev μ-loop : tie.MeasureT-loop
+μ-loop bytes i₀ t3 i = length bytes - i
+
+loop-holds : tie.Need-loop-holds Inv-loop μ-loop
+loop-holds c = search needs
+
+shared-slice-read-show-byte : tie.Need-shared-slice-read-show-byte Inv-loop μ-loop
+shared-slice-read-show-byte c = search needs
+
+show-byte-requires : tie.Need-show-byte-requires Inv-loop μ-loop
+show-byte-requires c κs = search needs
+
+add-i : tie.Need-add-i Inv-loop μ-loop
+add-i c = search needs
+
+loop-less : tie.Need-loop-less Inv-loop μ-loop
+loop-less c = search needs
+
+loop-again : tie.Need-loop-again Inv-loop μ-loop
+loop-again c = search needs
+
+slice-aggregate-write-all : tie.Need-slice-aggregate-write-all Inv-loop μ-loop
+slice-aggregate-write-all c = search needs
+
+write-all-requires : tie.Need-write-all-requires Inv-loop μ-loop
+write-all-requires c κs = search needs
+
+returns : tie.Need-returns Inv-loop μ-loop
+returns c = search needs
+
+pub show-line-spec : {M : Type 1} → statement M
+show-line-spec =
+    tie.close
+    (tie.spec
+    Inv-loop
+    μ-loop
+    loop-holds
+    shared-slice-read-show-byte
+    show-byte-requires
+    add-i
+    loop-less
+    loop-again
+    slice-aggregate-write-all
+    write-all-requires
+    returns)
