@@ -3,12 +3,11 @@ use converter::convert_book;
 use limits::Limits;
 use reading::number;
 use reading::part_of;
+use tables::show_hex;
+use tables::show_item;
 
 // The longest input: a book of 65,535 bytes behind its length.
 const LONGEST: usize = 2 + 65535;
-
-// Bytes to a line.
-const LINE: usize = 32;
 
 // One byte more than the longest input, so that bytes left over are seen.
 fn main() {
@@ -31,37 +30,5 @@ fn convert(input: &[u8]) {
     show_item(r.place as u64);
     show_item(r.bytes as u64);
     io::write_all(1, b"\n");
-    show_bytes(part_of(&room, 0, r.bytes));
-}
-
-// A number behind what stands before it in its line.
-fn show_item(n: u64) {
-    io::write_all(1, b" ");
-    io::print_decimal(1, n);
-}
-
-// Bytes in hexadecimal, line by line; the last may have fewer.
-fn show_bytes(bytes: &[u8]) {
-    let mut p: usize = 0;
-    while p < bytes.len() {
-        let end = p + LINE;
-        show_line(part_of(bytes, p, end));
-        p = end;
-    }
-}
-
-fn show_line(bytes: &[u8]) {
-    let mut i: usize = 0;
-    while i < bytes.len() {
-        show_byte(bytes[i]);
-        i += 1;
-    }
-    io::write_all(1, b"\n");
-}
-
-fn show_byte(b: u8) {
-    let digits = b"0123456789abcdef";
-    let high = (b / 16) as usize;
-    let low = (b % 16) as usize;
-    io::write_all(1, &[digits[high], digits[low]]);
+    show_hex(part_of(&room, 0, r.bytes));
 }

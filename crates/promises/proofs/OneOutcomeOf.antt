@@ -40,6 +40,7 @@ use Rattle.nodes.proofs.label_at as label-at
 use Rattle.nodes.proofs.arrow_at as arrow-at
 use Rattle.nodes.proofs.follow
 use Rattle.nodes.proofs.put
+use Rattle.nodes.proofs.put_forward as put-forward
 use Rattle.nodes.proofs.pull_up as pull-up
 use Rattle.figures.proofs.add_figures as add-figures
 use Rattle.run.proofs.run
@@ -166,6 +167,9 @@ follow-one = by-claim follow.ended (λ κs a z z′ e e′. one-value)
 
 pub put-one : OneOutcome put.ended (λ κs z z′ e e′. now (e .0) ≡ now (e′ .0)) (λ M. put.clauses)
 put-one = by-claim put.ended (λ κs a z z′ e e′. one-value)
+
+pub put-forward-one : OneOutcome put-forward.ended (λ κs z z′ e e′. now (e .0) ≡ now (e′ .0)) (λ M. put-forward.clauses)
+put-forward-one = by-claim put-forward.ended (λ κs a z z′ e e′. one-value)
 
 pub pull-up-one : OneOutcome pull-up.ended (λ κs z z′ e e′. (z ≡ z′) × (now (e .0) ≡ now (e′ .0))) (λ M. pull-up.clauses)
 pull-up-one = by-claim pull-up.ended (λ κs a z z′ e e′ one other. (one-value (one .0) (other .0), one-value (one .1) (other .1)))
