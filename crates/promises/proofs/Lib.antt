@@ -3,3 +3,4 @@ pub mod Kept
 pub mod OneOutcome
 pub mod OneOutcomeOf
 pub mod Converting
+pub mod Listings

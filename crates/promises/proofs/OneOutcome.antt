@@ -31,6 +31,12 @@ use Rattle.machine.specs.Run.{Memory as LentMemory, Result, Outcome}
 use Rattle.converter.specs.declared.Conversion.{Conversion}
 use Rattle.converter.specs.Convert.{Outcome as Conversions}
 use Rattle.converter.specs.InCode.{after as convertedAs}
+use Rattle.tagged.specs.declared.write.Written.{Written as ListingWritten}
+use Rattle.tagged.specs.declared.circle.Saved.{Saved}
+use Rattle.tagged.specs.Write.{Outcome as ListingBook}
+use Rattle.tagged.specs.Saved.{Outcome as SavedAs}
+use Rattle.tagged.specs.Putting.{outcomeOf as listedAs}
+use Rattle.tagged.specs.Saving.{outcomeOf as savedBy}
 use Rattle.figures.specs.declared.Figured.{Figured}
 use Rattle.figures.specs.Figures.{Outcome as Figures}
 use Rattle.figures.specs.InCode.{after as figuredAs}
@@ -121,6 +127,20 @@ pub one-converted : {t : Conversions} (r r′ : Conversion) (room room′ : List
 one-converted r r′ room room′ one other =
     let same = one-value one other in
     (ap (λ (o : Conversions). record { number = o .number; place = o .place; bytes = o .bytes }) same, ap (λ (o : Conversions). o .room) same)
+
+-- what the writer of a listing's book hands back, and the room lent after it
+pub one-listed : {t : ListingBook} (r r′ : ListingWritten) (room room′ : List ℕ) → listedAs r room ≡ t → listedAs r′ room′ ≡ t → (r ≡ r′) × (room ≡ room′)
+one-listed r r′ room room′ one other =
+    let same = one-value one other in
+    let back : ListingBook → ListingWritten = λ o. record { number = o .result .number; line = o .result .line; bytes = o .result .bytes } in
+    (ap back same, ap (λ (o : ListingBook). o .room) same)
+
+-- what is handed back when a listing is saved, and the row lent after it
+pub one-saved : {t : SavedAs} (r r′ : Saved) (row row′ : List ℕ) → savedBy r row ≡ t → savedBy r′ row′ ≡ t → (r ≡ r′) × (row ≡ row′)
+one-saved r r′ row row′ one other =
+    let same = one-value one other in
+    let back : SavedAs → Saved = λ o. record { number = o .result .number; line = o .result .line; headings = o .result .headings; circle = o .result .circle } in
+    (ap back same, ap (λ (o : SavedAs). o .row) same)
 
 -- what the index figures hand back, and the totals after it
 pub one-figured : {t : Figures} (r r′ : Figured) (row row′ : List ℕ) → figuredAs r row ≡ t → figuredAs r′ row′ ≡ t → (r ≡ r′) × (row ≡ row′)

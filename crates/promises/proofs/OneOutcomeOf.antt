@@ -30,6 +30,8 @@ use Rattle.book.proofs.read_question as read-question
 use Rattle.book.proofs.rows_read as rows-read
 use Rattle.writer.proofs.write_book as write-book
 use Rattle.converter.proofs.convert_book as convert-book
+use Rattle.tagged.proofs.write_listing as write-listing
+use Rattle.tagged.proofs.save_listing as save-listing
 use Rattle.nodes.proofs.Row.apply as row-apply
 use Rattle.nodes.proofs.Row.choice as row-choice
 use Rattle.nodes.proofs.Row.fail as row-fail
@@ -47,7 +49,7 @@ use Rattle.run.proofs.run
 use Rattle.run.proofs.run_owned as run-owned
 use Rattle.promises.proofs.Contracts.{leftBy}
 use Rattle.promises.proofs.OneOutcome.{OneOutcome, OneResult, by-claim, one-value, one-bounded, one-set, one-row, one-reading}
-use Rattle.promises.proofs.OneOutcome.{one-symbol-part, one-index, one-written, one-converted, one-figured, one-run, one-owned}
+use Rattle.promises.proofs.OneOutcome.{one-symbol-part, one-index, one-written, one-converted, one-listed, one-saved, one-figured, one-run, one-owned}
 
 -- crate `limits`
 pub all-open-one : OneResult all-open.ended (λ M. all-open.clauses)
@@ -136,6 +138,13 @@ write-book-one = by-claim write-book.ended (λ κs a z z′ e e′. one-written 
 -- crate `converter`
 pub convert-book-one : OneOutcome convert-book.ended (λ κs z z′ e e′. (z ≡ z′) × (now (e .1 .0) ≡ now (e′ .1 .0))) (λ M. convert-book.clauses)
 convert-book-one = by-claim convert-book.ended (λ κs a z z′ e e′. one-converted z z′ (now (e .1 .0)) (now (e′ .1 .0)))
+
+-- crate `tagged`
+pub write-listing-one : OneOutcome write-listing.ended (λ κs z z′ e e′. (z ≡ z′) × (now (e .1 .0) ≡ now (e′ .1 .0))) (λ M. write-listing.clauses)
+write-listing-one = by-claim write-listing.ended (λ κs a z z′ e e′. one-listed z z′ (now (e .1 .0)) (now (e′ .1 .0)))
+
+pub save-listing-one : OneOutcome save-listing.ended (λ κs z z′ e e′. (z ≡ z′) × (now (e .1 .0) ≡ now (e′ .1 .0))) (λ M. save-listing.clauses)
+save-listing-one = by-claim save-listing.ended (λ κs a z z′ e e′. one-saved z z′ (now (e .1 .0)) (now (e′ .1 .0)))
 
 -- crate `nodes`
 pub row-apply-one : OneResult row-apply.ended (λ M. row-apply.clauses)
