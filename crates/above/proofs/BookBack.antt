@@ -30,7 +30,7 @@ use Rattle.above.proofs.Fits.{nest-fits, nest-readable, first-fitting, 
 -- ---- symbols
 
 -- a symbol of sort 0 without arguments
-abbrev plain : Bool → Symbol
+abbrev pub plain : Bool → Symbol
 plain kind = record { isOperation = kind; sort = 0; arguments = [] }
 
 pub data Plain : Symbols → Type 0 where

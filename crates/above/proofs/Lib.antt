@@ -7,3 +7,4 @@ pub mod Standing
 pub mod ExprBack
 pub mod BookBack
 pub mod Promised
+pub mod Over
