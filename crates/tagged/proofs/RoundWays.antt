@@ -100,8 +100,8 @@ module _ (broader : Broader) where
   stays k same (suc m) j is x =
       let e : j ≡ suc (m + k) = omega arith in
       rw e (chains-more broader (m + k) x
-        ∙ longest-same (chains broader (m + k)) (chains broader k) (broaderOf broader x) (stays k same m (m + k) refl)
-        ∙ sym (chains-more broader k x) ∙ same x)
+      ∙ longest-same (chains broader (m + k)) (chains broader k) (broaderOf broader x) (stays k same m (m + k) refl)
+      ∙ sym (chains-more broader k x) ∙ same x)
 
   pub settled-levels : (k : ℕ) → k ≤ n → Settled k → SameRow (chains broader k) (levels broader)
   unfolding levels
@@ -113,8 +113,11 @@ module _ (broader : Broader) where
   clear-settled is x =
       let (y, longer) = chain-there broader (suc n) x in
       let (z, long) = chain-there broader n x in
-      omega (arith, chain-most broader n (getD (chains broader (suc n)) x 0) longer (chain-short broader nobody (getD (chains broader (suc n)) x 0) longer),
-        chain-most broader (suc n) (getD (chains broader n) x 0) long (omega (arith, chain-low n x)))
+      omega (
+        arith,
+        chain-most broader n (getD (chains broader (suc n)) x 0) longer (chain-short broader nobody (getD (chains broader (suc n)) x 0) longer),
+        chain-most broader (suc n) (getD (chains broader n) x 0) long (omega (arith, chain-low n x)),
+      )
     where
       nobody : HasCircle broader → ⊥
       nobody has = let (c, named) = told broader .reported .0 has in let z : _≡_ {A = ℕ} 0 1 = cc in omega arith
@@ -139,7 +142,7 @@ module _ (broader : Broader) where
   }
 
   module _ (k m : ℕ) (row next : List ℕ) (long : n ≡ m) (r : Rounded k row) (round : RoundOf broader row next)
-    (alike : (x : ℕ) → x < m → getD next x 0 ≡ getD row x 0) where
+      (alike : (x : ℕ) → x < m → getD next x 0 ≡ getD row x 0) where
     pub rounded-clear : circle broader ≡ none
     rounded-clear = settled-clear k (settled-rows k m row next long (r .same) round alike)
 

@@ -51,7 +51,13 @@ fn larger(a: u16, b: u16) -> u16
 }
 
 // One hop from heading x, and the longest chain behind it.
-fn longest_of(from: &[u16; ROWS], to: &[u16; TERMS], n: usize, row: &[u16; HEADINGS], x: usize) -> u16
+fn longest_of(
+    from: &[u16; ROWS],
+    to: &[u16; TERMS],
+    n: usize,
+    row: &[u16; HEADINGS],
+    x: usize,
+) -> u16
     requires { ⌜ (Holding (now from) (now to) n) × (x < n) × (Low (now row)) ⌝ }
     ensures { λ r. ⌜ r ≡ longest (now (row .entry)) (broaderOf (held (now (from .entry)) (now (to .entry)) n) x) ⌝ }
 {
@@ -67,7 +73,12 @@ fn longest_of(from: &[u16; ROWS], to: &[u16; TERMS], n: usize, row: &[u16; HEADI
 }
 
 // The next row of chains: of one hop more.
-fn one_round(from: &[u16; ROWS], to: &[u16; TERMS], n: usize, row: &[u16; HEADINGS]) -> [u16; HEADINGS]
+fn one_round(
+    from: &[u16; ROWS],
+    to: &[u16; TERMS],
+    n: usize,
+    row: &[u16; HEADINGS],
+) -> [u16; HEADINGS]
     requires { ⌜ (Holding (now from) (now to) n) × (Low (now row)) ⌝ }
     ensures { λ r. ⌜ RoundOf (held (now (from .entry)) (now (to .entry)) n) (now (row .entry)) r ⌝ }
 {
@@ -116,11 +127,20 @@ fn levels_of(from: &[u16; ROWS], to: &[u16; TERMS], n: usize) -> Levelled
         row = next;
         k += 1;
     }
-    Levelled { settled: false, row }
+    Levelled {
+        settled: false,
+        row,
+    }
 }
 
 // Some broader term of x has its mark set.
-fn some_marked(from: &[u16; ROWS], to: &[u16; TERMS], n: usize, marks: &[bool; HEADINGS], x: usize) -> bool
+fn some_marked(
+    from: &[u16; ROWS],
+    to: &[u16; TERMS],
+    n: usize,
+    marks: &[bool; HEADINGS],
+    x: usize,
+) -> bool
     requires { ⌜ (Holding (now from) (now to) n) × (x < n) ⌝ }
     ensures { λ r. ⌜ r ≡ someMarked (now (marks .entry)) (broaderOf (held (now (from .entry)) (now (to .entry)) n) x) ⌝ }
 {
@@ -137,7 +157,12 @@ fn some_marked(from: &[u16; ROWS], to: &[u16; TERMS], n: usize, marks: &[bool; H
 }
 
 // The headings from which one hop leads to a marked one.
-fn one_hop(from: &[u16; ROWS], to: &[u16; TERMS], n: usize, marks: &[bool; HEADINGS]) -> [bool; HEADINGS]
+fn one_hop(
+    from: &[u16; ROWS],
+    to: &[u16; TERMS],
+    n: usize,
+    marks: &[bool; HEADINGS],
+) -> [bool; HEADINGS]
     requires { ⌜ Holding (now from) (now to) n ⌝ }
     ensures { λ r. ⌜ HopOf (held (now (from .entry)) (now (to .entry)) n) (now (marks .entry)) r ⌝ }
 {
@@ -228,7 +253,13 @@ fn lower_of(counts: bool, b: usize, low: usize) -> usize
 }
 
 // The lowest broader term of `here` that is marked; n if none is, or if `here` is itself past all headings.
-fn lowest_of(from: &[u16; ROWS], to: &[u16; TERMS], n: usize, marks: &[bool; HEADINGS], here: usize) -> usize
+fn lowest_of(
+    from: &[u16; ROWS],
+    to: &[u16; TERMS],
+    n: usize,
+    marks: &[bool; HEADINGS],
+    here: usize,
+) -> usize
     requires { ⌜ Holding (now from) (now to) n ⌝ }
     ensures { λ r. ⌜ LowestAs (held (now (from .entry)) (now (to .entry)) n) n (now (marks .entry)) here r ⌝ }
 {
@@ -247,7 +278,14 @@ fn lowest_of(from: &[u16; ROWS], to: &[u16; TERMS], n: usize, marks: &[bool; HEA
 }
 
 // The circle of so many hops from `first` on, over the front of the row.
-fn put_way(from: &[u16; ROWS], to: &[u16; TERMS], n: usize, first: usize, hops: usize, row: &mut [u16])
+fn put_way(
+    from: &[u16; ROWS],
+    to: &[u16; TERMS],
+    n: usize,
+    first: usize,
+    hops: usize,
+    row: &mut [u16],
+)
     requires { ⌜ (Holding (now from) (now to) n) × (first < n) × (hops ≤ length (now row)) ⌝ }
     ensures { λ r. ⌜ now (row .exit) ≡ over (wayFrom (held (now (from .entry)) (now (to .entry)) n) first hops first) (now (row .entry)) ⌝ }
 {

@@ -32,7 +32,7 @@ returns : tie.Need-returns Inv-loop μ-loop
 returns c =
     let a = c .before .args in
     λ own same long. sym (lowest-nobody own (broaderOf (held (a .from .now) (a .to .now) (a .n)) (a .here))
-      (broader-past (a .from .now) (a .to .now) (a .n) (c .before .pre) (a .here) (c .if1 .taken)) ∙ long)
+    (broader-past (a .from .now) (a .to .now) (a .n) (c .before .pre) (a .here) (c .if1 .taken)) ∙ long)
 
 add-place : tie.Need-add-place Inv-loop μ-loop
 add-place c = search needs
@@ -47,9 +47,11 @@ loop-holds : tie.Need-loop-holds Inv-loop μ-loop
 loop-holds c =
     let a = c .before .before .before .args in
     let pre = c .before .before .before .pre in
-    let whole = broader-at (a .from .now) (a .to .now) (a .n) pre (a .here) (omega arith) in
-    (omega arith, λ own same long. rw (c .place2 .ensures, c .before .place .ensures, ← whole)
-      (omega (arith, lowest-within own (broaderOf (held (a .from .now) (a .to .now) (a .n)) (a .here)))))
+    let whole = broader-at (a .from .now) (a .to .now) (a .n) pre (a .here) (omega arith) in (
+      omega arith,
+      λ own same long. rw (c .place2 .ensures, c .before .place .ensures, ← whole)
+          (omega (arith, lowest-within own (broaderOf (held (a .from .now) (a .to .now) (a .n)) (a .here)))),
+    )
 
 term-requires : tie.Need-term-requires Inv-loop μ-loop
 term-requires c κs =
@@ -85,13 +87,15 @@ loop-again c =
     let b = getD to (loop .i) 0 in
     let within : until .result ≤ length to = omega (arith, until .ensures, end-in (a .from .now) to (a .n) (start .pre) (a .here) (omega arith)) in
     let now-low : c .lower-of .result ≡ lowerOf (getD marks b false) b (loop .low) = rw (c .before .before .term .ensures) at (c .lower-of .ensures) in
-    let less = lower-less (getD marks b false) b (loop .low) in
-    (omega (arith, loop .inv .0), λ own same long.
-      let more = lowest-more own to (loop .i) (until .result) (omega arith) within in
-      let rest = lowest own (bytesOf to (loop .i + 1) (until .result)) in
-      let turn : min (loop .low) (lowerOf (getD own b false) b rest) ≡ min (lowerOf (getD marks b false) b (loop .low)) rest =
-        rw (same b) (lower-turn (getD own b false) b (loop .low) rest) in
-      rw now-low (loop .inv .1 own same long ∙ ap (min (loop .low)) more ∙ turn))
+    let less = lower-less (getD marks b false) b (loop .low) in (
+      omega (arith, loop .inv .0),
+      λ own same long.
+          let more = lowest-more own to (loop .i) (until .result) (omega arith) within in
+          let rest = lowest own (bytesOf to (loop .i + 1) (until .result)) in
+          let turn : min (loop .low) (lowerOf (getD own b false) b rest) ≡ min (lowerOf (getD marks b false) b (loop .low)) rest =
+          rw (same b) (lower-turn (getD own b false) b (loop .low) rest) in
+          rw now-low (loop .inv .1 own same long ∙ ap (min (loop .low)) more ∙ turn),
+    )
 
 returns-2 : tie.Need-returns-2 Inv-loop μ-loop
 returns-2 c =

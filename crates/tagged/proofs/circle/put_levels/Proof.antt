@@ -44,10 +44,13 @@ loop-less c = search needs
 loop-again : tie.Need-loop-again Inv-loop μ-loop
 loop-again c =
     let start = c .before .before .before in
-    let loop = c .before .before .loop in
-    (omega arith, simp length-set (loop .inv .1), λ levels same long.
-      level-more levels (start .args .own .now) (start .args .row .now) (loop .row) (loop .x) (omega arith) (omega (arith, start .pre .1, loop .inv .1))
-      (same (loop .x)) (loop .inv .2 levels same long))
+    let loop = c .before .before .loop in (
+      omega arith,
+      simp length-set (loop .inv .1),
+      λ levels same long.
+          level-more levels (start .args .own .now) (start .args .row .now) (loop .row) (loop .x) (omega arith) (omega (arith, start .pre .1, loop .inv .1))
+          (same (loop .x)) (loop .inv .2 levels same long),
+    )
 
 same-length : tie.Need-same-length Inv-loop μ-loop
 same-length c = omega (arith, c .before .loop .inv .1)
@@ -57,7 +60,7 @@ returns c =
     let start = c .before .before in
     let loop = c .before .loop in
     λ levels same long. level-all levels (start .args .row .now) (loop .row) (loop .x) (omega arith) (omega (arith, start .pre .1, loop .inv .1))
-      (loop .inv .2 levels same long)
+    (loop .inv .2 levels same long)
 
 pub put-levels-spec : {M : Type 1} → statement M
 put-levels-spec =

@@ -67,11 +67,14 @@ loop-again c =
     let same = c .before .before .below-in .ensures in
     let low = c .lowest-of .ensures in
     let next = c .lowest-of .result in
-    let more = way-more broader (a .first) left (loop .here) next (a .n) marks long same low (a .hops - loop .i) (a .hops - (loop .i + 1)) (omega arith) (omega arith) in
-    (omega arith, next-low broader (a .first) left (loop .here) next (a .n) marks long same low, simp length-set (loop .inv .2),
+    let more = way-more broader (a .first) left (loop .here) next (a .n) marks long same low (a .hops - loop .i) (a .hops - (loop .i + 1)) (omega arith) (omega arith) in (
+      omega arith,
+      next-low broader (a .first) left (loop .here) next (a .n) marks long same low,
+      simp length-set (loop .inv .2),
       front-more (wayFrom broader (a .first) (a .hops) (a .first)) (a .row .now) (loop .row) (loop .i) (loop .here)
-      (wayFrom broader (a .first) (a .hops - loop .i) (loop .here)) (wayFrom broader (a .first) (a .hops - (loop .i + 1)) next)
-      (omega (arith, c .before .before .before .before .before .before .pre .2, loop .inv .2)) more (loop .inv .3))
+          (wayFrom broader (a .first) (a .hops - loop .i) (loop .here)) (wayFrom broader (a .first) (a .hops - (loop .i + 1)) next)
+          (omega (arith, c .before .before .before .before .before .before .pre .2, loop .inv .2)) more (loop .inv .3),
+    )
 
 same-length : tie.Need-same-length Inv-loop μ-loop
 same-length c = omega (arith, c .before .loop .inv .2)

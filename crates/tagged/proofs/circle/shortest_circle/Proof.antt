@@ -48,17 +48,19 @@ loop-again c =
     let loop = c .before .before .before .loop in
     let broader = held (a .from .now) (a .to .now) (a .n) in
     let long = held-length (a .from .now) (a .to .now) (a .n) 0 in
-    let back = c .before .back-in in
-    (omega arith, ⊎-elim
-      (λ w.
-        let h : c .if1 .hops ≡ back .result = w .1 in
-        let f : c .if1 .first ≡ loop .x = w .2 in
-        rw (h, f) (sought-shorter broader (loop .x) (loop .hops) (loop .first) (back .result) (loop .inv .1) (back .ensures) (w .0 .taken) (omega arith)))
-      (λ w.
-        let h : c .if1 .hops ≡ loop .hops = w .1 in
-        let f : c .if1 .first ≡ loop .first = w .2 in
-        rw (h, f) (sought-same broader (loop .x) (loop .hops) (loop .first) (back .result) (loop .inv .1) (back .ensures) (w .0 .left)))
-      (c .if1 .came))
+    let back = c .before .back-in in (
+      omega arith,
+      ⊎-elim
+          (λ w.
+          let h : c .if1 .hops ≡ back .result = w .1 in
+          let f : c .if1 .first ≡ loop .x = w .2 in
+          rw (h, f) (sought-shorter broader (loop .x) (loop .hops) (loop .first) (back .result) (loop .inv .1) (back .ensures) (w .0 .taken) (omega arith)))
+          (λ w.
+          let h : c .if1 .hops ≡ loop .hops = w .1 in
+          let f : c .if1 .first ≡ loop .first = w .2 in
+          rw (h, f) (sought-same broader (loop .x) (loop .hops) (loop .first) (back .result) (loop .inv .1) (back .ensures) (w .0 .left)))
+          (c .if1 .came),
+    )
 
 returns : tie.Need-returns Inv-loop μ-loop
 returns c =
