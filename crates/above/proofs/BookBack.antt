@@ -30,10 +30,10 @@ use Rattle.above.proofs.Fits.{nest-fits, nest-readable, first-fitting, 
 -- ---- symbols
 
 -- a symbol of sort 0 without arguments
-abbrev plain : Bool → Symbol
+abbrev pub plain : Bool → Symbol
 plain kind = record { isOperation = kind; sort = 0; arguments = [] }
 
-data Plain : Symbols → Type 0 where
+pub data Plain : Symbols → Type 0 where
   none : Plain []
   more : {kind : Bool} {rest : Symbols} → Plain rest → Plain (plain kind ∷ rest)
 
@@ -47,7 +47,7 @@ unfolding symbolsLaid symbolLaid
 plain-bytes none = refl
 plain-bytes (more p) = omega (arith, plain-bytes p)
 
-symbol-reads : (bs : List ℕ) (kind : Bool) (e before p : ℕ) (xs : List ℕ) → p + 3 ≤ e → before < mostSymbols
+pub symbol-reads : (bs : List ℕ) (kind : Bool) (e before p : ℕ) (xs : List ℕ) → p + 3 ≤ e → before < mostSymbols
     → drop p bs ≡ symbolLaid (plain kind) ++ xs → symbolAt bs e before p ≡ got (plain kind) (p + 3)
 unfolding symbolAt symbolLaid sortsAt _then_ refuse_at_if_else_
 symbol-reads bs false e before p xs inside few stands =
@@ -70,7 +70,7 @@ symbols-end : (bs : List ℕ) (bound e before p : ℕ) → e ≤ p → symbolsAt
 unfolding symbolsAt
 symbols-end bs bound e before p over = rw (le-ltb p e over, symbolsAt) refl
 
-symbols-more : (bs : List ℕ) (bound e before p : ℕ) → p < e
+pub symbols-more : (bs : List ℕ) (bound e before p : ℕ) → p < e
     → symbolsAt bs (suc bound) e before p
     ≡ _then_ (symbolAt bs e before p) (λ (x : Symbol) (q : ℕ). _then_ (symbolsAt bs bound e (suc before) q) (λ (rest : Symbols) (r : ℕ). got (x ∷ rest) r))
 unfolding symbolsAt
@@ -104,7 +104,7 @@ module _ (bs : List ℕ) (S : Symbols) where
       ∙ ap (got (Tree.rule x)) (omega arith)
 
   -- with its length in front
-  item-reads : (x : Symbol) (e p : ℕ) (r : Expr) (xs : List ℕ) → ExprFits S (x .arguments) r (x .sort) → Readable (versionOf bs) (x .arguments) r → nodesOf r ≤ mostExpressionNodes
+  pub item-reads : (x : Symbol) (e p : ℕ) (r : Expr) (xs : List ℕ) → ExprFits S (x .arguments) r (x .sort) → Readable (versionOf bs) (x .arguments) r → nodesOf r ≤ mostExpressionNodes
       → p + length (lengthFirst (treeLaid (Tree.rule r))) ≤ e → drop p bs ≡ lengthFirst (treeLaid (Tree.rule r)) ++ xs
       → itemAt bs S e x p ≡ got (Tree.rule r) (p + length (lengthFirst (treeLaid (Tree.rule r))))
   unfolding itemAt lengthFirst twoBytes
@@ -156,7 +156,7 @@ or-false true b is = absurd (let z : _≡_ {A = ℕ} 0 1 = cc in omega arith)
 or-false false b is = (refl, is)
 
 -- each rule fits
-data Fit (S : Symbols) : List Expr → Type 0 where
+pub data Fit (S : Symbols) : List Expr → Type 0 where
   none : Fit S []
   more : {r : Expr} {rs : List Expr} → ExprFits S [] r 0 → ((version : ℕ) → Readable version [] r) → Fit S rs → Fit S (r ∷ rs)
 
@@ -213,85 +213,101 @@ module _ (broader : Broader) (inside : Inside broader) where
   unfolding firstRules secondRules
   rule-count = simp (length-append, length-map)
 
-  module _ (some : 0 < n) (within : passes broader ≡ false) where
-    -- the three sizes
-    sizes : (n + (n + n) ≤ mostSymbols) × (someOver rules ≡ false) × (length (laid (rulesFor broader)) ≤ mostBookBytes)
-    unfolding passes
-    sizes =
-        let (two, bytes) = or-false _ (ltb mostBookBytes (length (laid (rulesFor broader)))) within in
-        let (symbols, few) = or-false (ltb mostSymbols (n + (n + n))) (someOver rules) two in
-        (ltb-false mostSymbols (n + (n + n)) symbols, few, ltb-false mostBookBytes (length (laid (rulesFor broader))) bytes)
+  -- ---- its bytes
 
-    abbrev sy : List ℕ
-    sy = symbolsLaid S
+  abbrev sy : List ℕ
+  sy = symbolsLaid S
 
-    abbrev tr : List ℕ
-    tr = treesLaid S (treesFor broader)
+  abbrev tr : List ℕ
+  tr = treesLaid S (treesFor broader)
 
-    abbrev bs : List ℕ
-    bs = laid (rulesFor broader)
+  abbrev bs : List ℕ
+  bs = laid (rulesFor broader)
 
-    plain-symbols : Plain S
-    unfolding symbolsFor
-    plain-symbols = rw append-nil at (plain-before n false (plain-before (n + n) true none))
+  pub plain-symbols : Plain S
+  unfolding symbolsFor
+  plain-symbols = rw append-nil at (plain-before n false (plain-before (n + n) true none))
 
-    -- what stands where
-    after-version : drop 1 bs ≡ twoBytes (length sy) ++ (sy ++ lengthFirst tr)
-    unfolding laid rulesFor lengthFirst
-    after-version = append-assoc (twoBytes (length sy)) sy (lengthFirst tr)
+  -- what stands where
+  after-version : drop 1 bs ≡ twoBytes (length sy) ++ (sy ++ lengthFirst tr)
+  unfolding laid rulesFor lengthFirst
+  after-version = append-assoc (twoBytes (length sy)) sy (lengthFirst tr)
 
-    how-long : length bs ≡ 1 + (2 + length sy) + (2 + length tr)
-    unfolding laid rulesFor lengthFirst twoBytes
-    how-long = omega (arith, length-append (lengthFirst sy) (lengthFirst tr))
+  pub symbols-stand : drop 3 bs ≡ sy ++ lengthFirst tr
+  symbols-stand = two-at bs 1 (length sy) _ after-version .1
 
-    symbol-count : length S ≡ n + (n + n)
-    unfolding symbolsFor
-    symbol-count = simp (length-append, length-replicate)
+  pub how-long : length bs ≡ 1 + (2 + length sy) + (2 + length tr)
+  unfolding laid rulesFor lengthFirst twoBytes
+  how-long = omega (arith, length-append (lengthFirst sy) (lengthFirst tr))
 
-    starts : drop 0 bs ≡ 1 ∷ (lengthFirst sy ++ lengthFirst tr)
-    unfolding laid rulesFor
-    starts = refl
+  pub symbol-count : length S ≡ n + (n + n)
+  unfolding symbolsFor
+  symbol-count = simp (length-append, length-replicate)
 
-    front : opened bs ≡ got (3 + length sy) 3
+  -- three bytes to a symbol
+  pub symbol-bytes : length sy ≡ 3 * length S
+  symbol-bytes = plain-bytes plain-symbols
+
+  starts : drop 0 bs ≡ 1 ∷ (lengthFirst sy ++ lengthFirst tr)
+  unfolding laid rulesFor
+  starts = refl
+
+  -- the tree part stands behind the symbol part
+  pub part-stands : drop (3 + length sy) bs ≡ twoBytes (length tr) ++ (tr ++ [])
+  unfolding lengthFirst
+  part-stands = behind bs 3 sy (lengthFirst tr) symbols-stand ∙ ap (_++_ (twoBytes (length tr))) (sym (append-nil tr))
+
+  -- the trees are those of the rules
+  tree-bytes : tr ≡ treesLaid (replicate (n + n) operation) (rulesBefore rules Trees.noTrees)
+  unfolding treesFor symbolsFor
+  tree-bytes = terms-laid n (replicate (n + n) operation) (rulesBefore rules Trees.noTrees)
+
+  -- one for each operation
+  pub as-many : replicate (length rules) operation ≡ replicate (n + n) operation
+  as-many = ap (λ k. replicate k operation) rule-count
+
+  pub own-bytes : treesLaid (replicate (length rules) operation) (rulesBefore rules Trees.noTrees) ≡ tr
+  own-bytes = ap (λ l. treesLaid l (rulesBefore rules Trees.noTrees)) as-many ∙ sym tree-bytes
+
+  pub all-fit : Fit S rules
+  all-fit = fit-append (firsts-fit broader low) (seconds-fit broader low)
+
+  -- ---- read, where it has no more bytes than a book may have
+
+  module _ (some : 0 < n) (small : length bs ≤ mostBookBytes) where
+    pub front : opened bs ≡ got (3 + length sy) 3
     unfolding opened
     front =
-        passes-test _ _ _ (le-ltb mostBookBytes (length bs) (sizes .2))
+        passes-test _ _ _ (le-ltb mostBookBytes (length bs) small)
         ∙ goes-on _ (byte-reads bs 0 (length bs) 0 1 _ (omega (arith, how-long)) starts)
         ∙ passes-test _ _ _ refl ∙ passes-test _ _ _ refl
         ∙ goes-on _ (length-reads bs 0 (length bs) 1 (length sy) _ (omega (arith, how-long)) after-version)
-        ∙ passes-test _ _ _ (ne-eqb 3 (3 + length sy) (λ is. omega (arith, plain-bytes plain-symbols, symbol-count, is)))
+        ∙ passes-test _ _ _ (ne-eqb 3 (3 + length sy) (λ is. omega (arith, symbol-bytes, symbol-count, is)))
 
     -- THE SYMBOLS ARE READ
-    symbols-back : symbolPart bs ≡ got S (3 + length sy)
+    pub symbols-back : n + (n + n) ≤ mostSymbols → symbolPart bs ≡ got S (3 + length sy)
     unfolding symbolPart
-    symbols-back =
+    symbols-back few =
         goes-on _ front
         ∙ symbols-read bs plain-symbols (3 + length sy - 3) (3 + length sy) 0 3 (lengthFirst tr)
-        (omega (arith, plain-bytes plain-symbols)) (omega (arith, symbol-count, sizes .0)) refl (two-at bs 1 (length sy) _ after-version .1)
+        (omega (arith, symbol-bytes)) (omega (arith, symbol-count, few)) refl symbols-stand
 
-    -- the trees are those of the rules
-    tree-bytes : tr ≡ treesLaid (replicate (n + n) operation) (rulesBefore rules Trees.noTrees)
-    unfolding treesFor symbolsFor
-    tree-bytes = terms-laid n (replicate (n + n) operation) (rulesBefore rules Trees.noTrees)
+  -- ---- read whole, within the sizes
 
-    all-sound : Sound S rules
-    all-sound = sound-of (fit-append (firsts-fit broader low) (seconds-fit broader low)) (sizes .1)
-
-    -- the tree part stands behind the symbol part
-    part-stands : drop (3 + length sy) bs ≡ twoBytes (length tr) ++ (tr ++ [])
-    unfolding lengthFirst
-    part-stands =
-        let behind-symbols = behind bs 3 sy (lengthFirst tr) (two-at bs 1 (length sy) _ after-version .1) in
-        behind-symbols ∙ ap (_++_ (twoBytes (length tr))) (sym (append-nil tr))
+  module _ (some : 0 < n) (within : passes broader ≡ false) where
+    -- the three sizes
+    sizes : (n + (n + n) ≤ mostSymbols) × (someOver rules ≡ false) × (length bs ≤ mostBookBytes)
+    unfolding passes
+    sizes =
+        let (two, bytes) = or-false _ (ltb mostBookBytes (length bs)) within in
+        let (symbols, few) = or-false (ltb mostSymbols (n + (n + n))) (someOver rules) two in
+        (ltb-false mostSymbols (n + (n + n)) symbols, few, ltb-false mostBookBytes (length bs) bytes)
 
     rules-stand : (end p : ℕ) → end ≡ p + length tr → drop p bs ≡ tr ++ []
         → treesOf bs S end (replicate (n + n) operation) p ≡ got (rulesBefore rules Trees.noTrees) end
     rules-stand end p is stands =
-        let as-many : replicate (length rules) operation ≡ replicate (n + n) operation = ap (λ k. replicate k operation) rule-count in
-        let own : treesLaid (replicate (length rules) operation) (rulesBefore rules Trees.noTrees) ≡ tr =
-        ap (λ l. treesLaid l (rulesBefore rules Trees.noTrees)) as-many ∙ sym tree-bytes in
-        let read = rules-read bs S end all-sound p [] (omega (arith, ap length own)) (stands ∙ ap (λ l. l ++ []) (sym own)) in
-        ap (λ l. treesOf bs S end l p) (sym as-many) ∙ read ∙ ap (got (rulesBefore rules Trees.noTrees)) (omega (arith, ap length own))
+        let read = rules-read bs S end (sound-of all-fit (sizes .1)) p [] (omega (arith, ap length own-bytes)) (stands ∙ ap (λ l. l ++ []) (sym own-bytes)) in
+        ap (λ l. treesOf bs S end l p) (sym as-many) ∙ read ∙ ap (got (rulesBefore rules Trees.noTrees)) (omega (arith, ap length own-bytes))
 
     -- THE TREES ARE READ
     trees-back : treePart bs S (3 + length sy) ≡ got (treesFor broader) (length bs)
@@ -310,4 +326,4 @@ module _ (broader : Broader) (inside : Inside broader) where
     -- THE BOOK OF A LISTING IS ADMITTED, AND MEANS ITS SYMBOLS AND TREES.
     pub book-back : readBook (laid (rulesFor broader)) ≡ got (rulesFor broader) (length (laid (rulesFor broader)))
     unfolding readBook rulesFor
-    book-back = goes-on _ symbols-back ∙ goes-on _ trees-back
+    book-back = goes-on _ (symbols-back some (sizes .2) (sizes .0)) ∙ goes-on _ trees-back

@@ -20,19 +20,19 @@ use Rattle.above.proofs.Standing.{goes-on, passes-test, one-at, behind,
 
 -- ---- lengths
 
-length-applied : (f : ℕ) (es : Exprs) → length (exprLaid (Expr.apply f es)) ≡ 3 + length (rowLaid es)
+pub length-applied : (f : ℕ) (es : Exprs) → length (exprLaid (Expr.apply f es)) ≡ 3 + length (rowLaid es)
 unfolding exprLaid twoBytes
 length-applied f es = omega arith
 
-length-chosen : (a b : Expr) → length (exprLaid (Expr.choice a b)) ≡ 1 + length (exprLaid a) + length (exprLaid b)
+pub length-chosen : (a b : Expr) → length (exprLaid (Expr.choice a b)) ≡ 1 + length (exprLaid a) + length (exprLaid b)
 unfolding exprLaid
 length-chosen a b = omega (arith, length-append (exprLaid a) (exprLaid b))
 
-length-row : (x : Expr) (es : Exprs) → length (rowLaid (Exprs.moreExprs x es)) ≡ length (exprLaid x) + length (rowLaid es)
+pub length-row : (x : Expr) (es : Exprs) → length (rowLaid (Exprs.moreExprs x es)) ≡ length (exprLaid x) + length (rowLaid es)
 unfolding exprLaid
 length-row x es = length-append (exprLaid x) (rowLaid es)
 
-length-shared : (s : ℕ) (a b : Expr) → length (exprLaid (Expr.shared s a b)) ≡ 2 + length (exprLaid a) + length (exprLaid b)
+pub length-shared : (s : ℕ) (a b : Expr) → length (exprLaid (Expr.shared s a b)) ≡ 2 + length (exprLaid a) + length (exprLaid b)
 unfolding exprLaid
 length-shared s a b = omega (arith, length-append (exprLaid a) (exprLaid b))
 
@@ -54,13 +54,13 @@ module _ (bs : List ℕ) (base : ℕ) (S : Symbols) (e : ℕ) where
   -- ---- one expression, by its code
 
   -- behind a symbol stand its arguments
-  after-symbol : (f p : ℕ) (xs : List ℕ) → drop p bs ≡ 1 ∷ (twoBytes f ++ xs) → drop (p + 3) bs ≡ xs
+  pub after-symbol : (f p : ℕ) (xs : List ℕ) → drop p bs ≡ 1 ∷ (twoBytes f ++ xs) → drop (p + 3) bs ≡ xs
   after-symbol f p xs stands =
       let next : p + 3 ≡ p + 1 + 2 = omega arith in
       rw next (two-at bs (p + 1) f xs (one-at bs p 1 _ stands .1) .1)
 
   -- the code is read
-  coded : (depth : ℕ) (vars : List ℕ) (sort left p c : ℕ) (xs : List ℕ) → 0 < depth → p < e → drop p bs ≡ c ∷ xs
+  pub coded : (depth : ℕ) (vars : List ℕ) (sort left p c : ℕ) (xs : List ℕ) → 0 < depth → p < e → drop p bs ≡ c ∷ xs
       → exprAt bs base S e depth vars sort left p ≡ codeAt bs base S e (exprAt bs base S e (depth - 1)) vars c sort left p
   unfolding exprAt
   coded zero vars sort left p c xs some inside stands = absurd (not-suc-le-zero some)
@@ -77,7 +77,7 @@ module _ (bs : List ℕ) (base : ℕ) (S : Symbols) (e : ℕ) where
       ∙ passes-test _ _ _ (lt-leb (length vars) x known) ∙ passes-test _ _ _ (ap not (eq-eqb _ _ is)) ∙ ap (got (leaving left (Expr.var x))) (omega arith)
 
   -- a symbol
-  applied-reads : (sort p f : ℕ) (xs : List ℕ) → p + 3 ≤ e → drop p bs ≡ 1 ∷ (twoBytes f ++ xs) → f < length S → symbolOf S f .sort ≡ sort
+  pub applied-reads : (sort p f : ℕ) (xs : List ℕ) → p + 3 ≤ e → drop p bs ≡ 1 ∷ (twoBytes f ++ xs) → f < length S → symbolOf S f .sort ≡ sort
       → appliedAt bs base S e sort p ≡ got f (p + 3)
   unfolding appliedAt
   applied-reads sort p f xs inside stands known is =

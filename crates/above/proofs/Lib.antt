@@ -7,3 +7,5 @@ pub mod Standing
 pub mod ExprBack
 pub mod BookBack
 pub mod Promised
+pub mod Over
+pub mod TooLarge
