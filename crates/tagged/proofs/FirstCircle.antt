@@ -19,7 +19,7 @@ use Rattle.tagged.proofs.Levels.{levels-are}
 
 -- ---- marks
 
-abbrev Marked : List Bool → ℕ → Type 0
+abbrev pub Marked : List Bool → ℕ → Type 0
 Marked marks b = getD marks b false ≡ true
 
 -- what is marked is there
@@ -29,7 +29,7 @@ marked-there (t ∷ marks) zero is = omega arith
 marked-there (t ∷ marks) (suc b) is = omega (arith, marked-there marks b is)
 
 -- some is marked
-some-marked : (marks : List Bool) (bs : List ℕ) → someMarked marks bs ≡ true → (b : ℕ) × In b bs × Marked marks b
+pub some-marked : (marks : List Bool) (bs : List ℕ) → someMarked marks bs ≡ true → (b : ℕ) × In b bs × Marked marks b
 unfolding someMarked
 some-marked marks [] is = absurd (let z : _≡_ {A = ℕ} 0 1 = cc in omega arith)
 some-marked marks (b ∷ bs) is = by (getD marks b false) refl is (some-marked marks bs)
@@ -39,7 +39,7 @@ some-marked marks (b ∷ bs) is = by (getD marks b false) refl is (some-marked m
     by true mark is rest = (b, first, mark)
     by false mark is rest = let (c, there, m) = rest is in (c, later there, m)
 
-marked-some : (marks : List Bool) {bs : List ℕ} {b : ℕ} → In b bs → Marked marks b → someMarked marks bs ≡ true
+pub marked-some : (marks : List Bool) {bs : List ℕ} {b : ℕ} → In b bs → Marked marks b → someMarked marks bs ≡ true
 unfolding someMarked
 marked-some marks first is = rw is refl
 marked-some marks (later {c} i) is = by (getD marks c false) (marked-some marks i is)
@@ -122,14 +122,14 @@ module _ (broader : Broader) where
   unfolding below someMarked
   below-more x k y = List·getD-map (someMarked (below broader x k)) broader y []
 
-  marked-hops : (x k y : ℕ) → Marked (below broader x k) y → Hops broader k y x
+  pub marked-hops : (x k y : ℕ) → Marked (below broader x k) y → Hops broader k y x
   unfolding below
   marked-hops x zero y is = rw (one-mark (length broader) x y is) here
   marked-hops x (suc k) y is =
       let (b, there, mark) = some-marked (below broader x k) (broaderOf broader y) (sym (below-more x k y) ∙ is) in
       hop there (marked-hops x k b mark)
 
-  hops-marked : (x : ℕ) → x < length broader → (k : ℕ) {y : ℕ} → Hops broader k y x → Marked (below broader x k) y
+  pub hops-marked : (x : ℕ) → x < length broader → (k : ℕ) {y : ℕ} → Hops broader k y x → Marked (below broader x k) y
   unfolding below
   hops-marked x low zero here = own-mark (length broader) x low
   hops-marked x low (suc k) {y} (hop there more) = below-more x k y ∙ marked-some (below broader x k) there (hops-marked x low k more)
@@ -170,7 +170,7 @@ module _ (broader : Broader) where
 
   -- ---- the search
 
-  abbrev n : ℕ
+  abbrev pub n : ℕ
   n = length broader
 
   -- the first heading from x on that returns in k hops; or none before the end does
@@ -232,14 +232,14 @@ module _ (broader : Broader) where
   -- ---- what the search says of circles
 
   -- a heading returns in k hops exactly if it does
-  returns-hops : (k x : ℕ) → returns broader k x ≡ true → Hops broader k x x
+  pub returns-hops : (k x : ℕ) → returns broader k x ≡ true → Hops broader k x x
   unfolding returns
   returns-hops k x is = marked-hops x k x is
 
   hops-low : {k x y : ℕ} → Hops broader (suc k) x y → x < n
   hops-low (hop there more) = has-broader broader there
 
-  hops-returns : (k x : ℕ) → Hops broader (suc k) x x → returns broader (suc k) x ≡ true
+  pub hops-returns : (k x : ℕ) → Hops broader (suc k) x x → returns broader (suc k) x ≡ true
   unfolding returns
   hops-returns k x hops = hops-marked x (hops-low hops) (suc k) hops
 

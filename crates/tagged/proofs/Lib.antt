@@ -26,6 +26,7 @@ pub mod MirrorParts
 pub mod JudgeWhole
 pub mod SavingRows
 pub mod RoundWays
+pub mod MarkHops
 pub mod MarkWays
 pub mod SavingWays
 pub mod PutWays

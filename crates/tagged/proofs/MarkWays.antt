@@ -1,5 +1,5 @@
 -- Marks, the search for a shortest circle, and the way round it.
-use mathlib.Core.Bool.{Bool, true, false, _||_}
+use mathlib.Core.Bool.{Bool, true, false, _||_, _&&_}
 use mathlib.Core.Path.{_≡_, refl, sym, ap, _∙_}
 use mathlib.Core.Option.{Option, none, some}
 use mathlib.Core.List.{List, [], _∷_, map}
@@ -8,14 +8,17 @@ use native.Mathlib.Omega.{arith}
 use native.Mathlib.Numerals.{add-one}
 use native.Mathlib.Nat.{not-suc-le-zero}
 use native.Mathlib.Decide.{decLt, ℕ-discrete}
+use borrow.Author.Tests.{le-leb, lt-leb}
+use lib.Dec.{leb}
 use lib.ListN.{length, getD, set, replicate, length-map, length-set, length-replicate, getD-replicate, List·getD-eq-default}
 use lib.Seq.{getD-set-same, getD-set-other}
 use Rattle.tagged.specs.Listing.{Broader}
-use Rattle.tagged.specs.Hops.{broaderOf}
+use Rattle.tagged.specs.Hops.{broaderOf, Hops, here as no-hop, hop as one-hop}
 use Rattle.tagged.specs.Circle.{someMarked, markAt, below, returns, firstReturn, lowest, wayTo, shortestFrom, circle}
 use Rattle.tagged.specs.Places.{bytesOf}
-use Rattle.tagged.specs.Saving.{SameMarks, HopOf, LowestAs, lowerOf, BackIn, wayFrom}
-use Rattle.tagged.proofs.FirstCircle.{below-more}
+use Rattle.tagged.specs.Saving.{SameMarks, HopFrom, HopsFrom, still, step, LowestAs, lowerOf, BackIn, wayFrom}
+use Rattle.tagged.proofs.FirstCircle.{some-marked, marked-some, below-more, marked-hops, hops-marked, hops-returns}
+use Rattle.tagged.proofs.MarkHops.{not-returned, last-hops, from-low}
 use Rattle.tagged.proofs.SavingRows.{terms-more, terms-none, all-none}
 
 -- ---- some marked, term by term
@@ -86,6 +89,20 @@ pub some-nobody : (marks : List Bool) (bs : List ℕ) → bs ≡ [] → someMark
 unfolding someMarked
 some-nobody marks bs is = ap (someMarked marks) is
 
+-- one hop from `low` on
+pub hop-low : (low y : ℕ) (t : Bool) → y < low → (leb low y && t) ≡ false
+hop-low low y t less = rw (lt-leb low y less) refl
+
+pub hop-high : (low y : ℕ) (r t : Bool) → low ≤ y → r ≡ t → r ≡ (leb low y && t)
+hop-high low y r t le is = rw (le-leb low y le) is
+
+pub hop-past : (low y : ℕ) (marks : List Bool) (bs : List ℕ) → bs ≡ [] → (leb low y && someMarked marks bs) ≡ false
+hop-past low y marks bs is = rw (some-nobody marks bs is) (by (leb low y))
+  where
+    by : (t : Bool) → (t && false) ≡ false
+    by true = refl
+    by false = refl
+
 -- a mark at x alone, of more headings
 pub mark-same : (m n x : ℕ) → x < n → n ≤ m → SameMarks (set (replicate m false) x true) (markAt n x)
 unfolding markAt
@@ -113,43 +130,83 @@ module _ (broader : Broader) where
   unfolding below
   below-none x m marks long same y = same y ∙ ap (λ (j : ℕ). getD (markAt j x) y false) (sym long)
 
-  pub hop-below : (x k : ℕ) (marks next : List Bool) → SameMarks marks (below broader x k) → HopOf broader marks next → SameMarks next (below broader x (suc k))
-  hop-below x k marks next same hop y = hop y ∙ some-same marks (below broader x k) (broaderOf broader y) same ∙ sym (below-more broader x k y)
+  pub hop-below : (x k : ℕ) (marks next : List Bool) → SameMarks marks (below broader x k) → HopFrom broader 0 marks next
+      → SameMarks next (below broader x (suc k))
+  hop-below x k marks next same hop y =
+      let any : leb 0 y ≡ true = le-leb 0 y (omega arith) in
+      hop y ∙ rw any (some-same marks (below broader x k) (broaderOf broader y) same ∙ sym (below-more broader x k y))
 
-  pub returns-is : (x k : ℕ) (marks : List Bool) (t : Bool) → SameMarks marks (below broader x k) → getD marks x false ≡ t → returns broader k x ≡ t
-  unfolding returns
-  returns-is x k marks t same is = sym (same x) ∙ is
+  -- ---- when a heading is reached from itself, by headings no lower
 
-  -- ---- when a heading is reached from itself
-
-  -- the marks of one hop less, and x was not reached from itself so far
+  -- marked are headings from which x is reached in one hop less, among them all that reach it by headings no lower; x was not so reached so far
   pub record Backed (x k : ℕ) (marks : List Bool) : Type 0 where
     pub any : 1 ≤ k
-    pub same : SameMarks marks (below broader x (k - 1))
-    pub before : (j : ℕ) → 1 ≤ j → j < k → returns broader j x ≡ false
+    pub sound : (y : ℕ) → getD marks y false ≡ true → Hops broader (k - 1) y x
+    pub full : (y : ℕ) → HopsFrom broader x (k - 1) y x → getD marks y false ≡ true
+    pub before : (j : ℕ) → 1 ≤ j → j < k → HopsFrom broader x j x x → ⊥
 
-  pub backed-none : (x : ℕ) (marks : List Bool) → SameMarks marks (below broader x 0) → Backed x 1 marks
-  backed-none x marks same = record { any = omega arith; same = same; before = λ j any low. absurd (omega arith) }
+  pub backed-none : (x : ℕ) (marks : List Bool) → x < n → SameMarks marks (below broader x 0) → Backed x 1 marks
+  backed-none x marks low same = record {
+    any = omega arith;
+    sound = λ y is. marked-hops broader x 0 y (sym (same y) ∙ is);
+    full = λ y hops. own y hops;
+    before = λ j any less. absurd (omega arith);
+  }
+    where
+      own : (y : ℕ) → HopsFrom broader x 0 y x → getD marks y false ≡ true
+      own y still = same x ∙ hops-marked broader x low 0 no-hop
 
-  module _ (x k : ℕ) (marks next : List Bool) (b : Backed x k marks) (hop : HopOf broader marks next) where
-    backed-hop : SameMarks next (below broader x k)
-    backed-hop =
+  module _ (x k : ℕ) (marks next : List Bool) (b : Backed x k marks) (hopped : HopFrom broader x marks next) where
+    both : (t u : Bool) → (t && u) ≡ true → u ≡ true
+    both true u is = is
+    both false u is = absurd (let z : _≡_ {A = ℕ} 0 1 = cc in omega arith)
+
+    next-sound : (y : ℕ) → getD next y false ≡ true → Hops broader k y x
+    next-sound y is =
+        let (c, there, mark) = some-marked marks (broaderOf broader y) (both (leb x y) (someMarked marks (broaderOf broader y)) (sym (hopped y) ∙ is)) in
         let e : suc (k - 1) ≡ k = omega (arith, b .any) in
-        rw e at (hop-below x (k - 1) marks next (b .same) hop)
+        rw e at (one-hop there (b .sound c mark))
+
+    next-full : (y j : ℕ) → j ≡ k → HopsFrom broader x j y x → getD next y false ≡ true
+    next-full y zero is still = absurd (omega (arith, b .any))
+    next-full y (suc j) is (step {y = c} le there more) =
+        let e : j ≡ k - 1 = omega arith in
+        let mark = b .full c (rw e at more) in
+        let high : leb x y ≡ true = le-leb x y le in
+        hopped y ∙ rw high (marked-some marks there mark)
 
     pub backed-is : getD next x false ≡ true → returns broader k x ≡ true
-    backed-is is = returns-is x k next true backed-hop is
+    backed-is is =
+        let e : suc (k - 1) ≡ k = omega (arith, b .any) in
+        rw e at (hops-returns broader (k - 1) x (rw (sym e) at (next-sound x is)))
+
+    unmarked : (y : ℕ) → getD next y false ≡ false → HopsFrom broader x k y x → ⊥
+    unmarked y is hops = let z : _≡_ {A = ℕ} 0 1 = cc (next-full y k refl hops) in omega arith
 
     pub backed-more : getD next x false ≡ false → Backed x (k + 1) next
     backed-more is = record {
       any = omega arith;
-      same = let e : k + 1 - 1 ≡ k = omega arith in rw e backed-hop;
-      before = λ j any low. by j any low (ℕ-discrete j k);
+      sound = λ y mark. let e : k + 1 - 1 ≡ k = omega arith in rw e (next-sound y mark);
+      full = λ y hops. next-full y (k + 1 - 1) (omega arith) hops;
+      before = λ j any low hops. by j any low hops (ℕ-discrete j k);
     }
       where
-        by : (j : ℕ) → 1 ≤ j → j < k + 1 → Dec (j ≡ k) → returns broader j x ≡ false
-        by j any low (yes e) = rw e (returns-is x k next false backed-hop is)
-        by j any low (no differs) = b .before j any (omega arith)
+        by : (j : ℕ) → 1 ≤ j → j < k + 1 → HopsFrom broader x j x x → Dec (j ≡ k) → ⊥
+        by j any low hops (yes e) = unmarked x is (rw e at hops)
+        by j any low hops (no differs) = b .before j any (omega arith) hops
+
+    -- where no heading is marked, x is not so reached in more hops either
+    pub backed-over : (m : ℕ) → n ≡ m → ((y : ℕ) → y < m → getD next y false ≡ false) → (j : ℕ) → 1 ≤ j → HopsFrom broader x j x x → ⊥
+    backed-over m long empty j any hops = by (decLt j k)
+      where
+        nobody : (y i : ℕ) → k ≡ suc i → HopsFrom broader x k y x → ⊥
+        nobody y i is last = unmarked y (empty y (omega (arith, from-low broader (rw is at last)))) last
+
+        by : Dec (j < k) → ⊥
+        by (yes less) = b .before j any less hops
+        by (no more) =
+            let (y, last) = last-hops broader x (j - k) j k (omega arith) hops in
+            nobody y (k - 1) (omega (arith, b .any)) last
 
   -- ---- the search
 
@@ -191,24 +248,31 @@ module _ (broader : Broader) where
     shortest-none zero k any le = refl
     shortest-none (suc bound) k any le = rw (none-at k any (omega arith), shortestFrom) (shortest-none bound (suc k) (omega arith) (omega arith))
 
-  -- what is known before heading `end`: none returns in fewer hops, and, once one was found, the first that returns in so many
+  -- what is known before heading `end`: none is reached from itself in fewer hops by headings no lower, and, once one was found, it is the first in so many
   pub record Sought (end hops first : ℕ) : Type 0 where
     pub any : 1 ≤ hops
     pub within : hops ≤ n + 1
-    pub nobody : (y k : ℕ) → y < end → 1 ≤ k → k < hops → returns broader k y ≡ false
+    pub nobody : (y k : ℕ) → y < end → 1 ≤ k → k < hops → HopsFrom broader y k y y → ⊥
     pub there : hops ≤ n → first < n
     pub is : hops ≤ n → returns broader hops first ≡ true
-    pub lower : hops ≤ n → (y : ℕ) → y < first → returns broader hops y ≡ false
+    pub lower : hops ≤ n → (y : ℕ) → y < first → HopsFrom broader y hops y y → ⊥
+
+  module _ (hops first : ℕ) (s : Sought n hops first) where
+    sought-unreturned : Unreturned n hops
+    sought-unreturned y k low any less = not-returned broader k y (λ z le. s .nobody z k (omega arith) any less)
+
+    sought-lower : hops ≤ n → (y : ℕ) → y < first → returns broader hops y ≡ false
+    sought-lower le y low = not-returned broader hops y (λ z under. s .lower le z (omega arith))
 
   pub sought-found : (hops first : ℕ) → Sought n hops first → hops ≤ n → circle broader ≡ some (first ∷ wayTo broader first hops first)
   unfolding circle
   sought-found hops first s le =
-      shortest-at hops (s .nobody) n 1 first (omega arith) (s .any) (omega arith)
-      (some-first hops n 0 first (omega arith) (omega (arith, s .there le)) (s .is le) (s .lower le))
+      shortest-at hops (sought-unreturned hops first s) n 1 first (omega arith) (s .any) (omega arith)
+      (some-first hops n 0 first (omega arith) (omega (arith, s .there le)) (s .is le) (sought-lower hops first s le))
 
   pub sought-missing : (hops first : ℕ) → Sought n hops first → n < hops → circle broader ≡ none
   unfolding circle
-  sought-missing hops first s le = shortest-none hops (s .nobody) n 1 (omega arith) (omega arith)
+  sought-missing hops first s le = shortest-none hops (sought-unreturned hops first s) n 1 (omega arith) (omega arith)
 
   pub sought-none : (hops : ℕ) → hops ≡ n + 1 → Sought 0 hops 0
   sought-none hops is = record {
@@ -222,12 +286,12 @@ module _ (broader : Broader) where
 
   module _ (x hops first k : ℕ) (s : Sought x hops first) (b : BackIn broader x hops k) where
     -- one heading more that returns in no fewer hops
-    unreturned : (y j : ℕ) → y < x + 1 → 1 ≤ j → j < k → returns broader j y ≡ false
-    unreturned y j low any less = by (ℕ-discrete y x)
+    unreturned : (y j : ℕ) → y < x + 1 → 1 ≤ j → j < k → HopsFrom broader y j y y → ⊥
+    unreturned y j low any less hops = by (ℕ-discrete y x)
       where
-        by : Dec (y ≡ x) → returns broader j y ≡ false
-        by (yes e) = rw e (b .before j any less)
-        by (no differs) = s .nobody y j (omega arith) any (omega (arith, b .within))
+        by : Dec (y ≡ x) → ⊥
+        by (yes e) = b .before j any less (rw e at hops)
+        by (no differs) = s .nobody y j (omega arith) any (omega (arith, b .within)) hops
 
     pub sought-same : hops ≤ k → Sought (x + 1) hops first
     sought-same le = record {
@@ -267,7 +331,8 @@ module _ (broader : Broader) where
   way-length x (suc left) here = ap length (way-on x left here) ∙ ap suc (way-length x left (lowest (below broader x left) (broaderOf broader here)))
 
   -- as the code has it: m headings, and the lowest of the marks
-  module _ (x left here next m : ℕ) (marks : List Bool) (long : n ≡ m) (same : SameMarks marks (below broader x left)) (low : LowestAs broader m marks here next) where
+  module _ (x left here next m : ℕ) (marks : List Bool) (long : n ≡ m) (same : SameMarks marks (below broader x left))
+      (low : LowestAs broader m marks here next) where
     next-is : next ≡ lowest (below broader x left) (broaderOf broader here)
     next-is = low (below broader x left) same (below-long x left ∙ long)
 

@@ -109,8 +109,11 @@ all-none none (suc m) zero = refl
 all-none none (suc m) (suc y) = all-none none m y
 
 module _ {A : Type 0} (f : ℕ → A) (none : A) where
+  pub fill-from : (m low : ℕ) → ((y : ℕ) → y < low → f y ≡ none) → Filled f none m (replicate m none) low
+  fill-from m low before = record { long = length-replicate m none; done = λ y less. all-none none m y ∙ sym (before y less); rest = λ y le. all-none none m y }
+
   pub fill-none : (m : ℕ) → Filled f none m (replicate m none) 0
-  fill-none m = record { long = length-replicate m none; done = λ y low. absurd (not-suc-le-zero low); rest = λ y le. all-none none m y }
+  fill-none m = fill-from m 0 (λ y less. absurd (not-suc-le-zero less))
 
   pub fill-more : (m : ℕ) (row : List A) (x : ℕ) (a : A) → x < m → a ≡ f x → Filled f none m row x → Filled f none m (set row x a) (x + 1)
   fill-more m row x a low is h = record {

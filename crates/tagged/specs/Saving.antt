@@ -1,12 +1,13 @@
 -- What the code of `save_listing` keeps on its way. For contracts of inner functions.
-use mathlib.Core.Bool.{Bool, true, false}
+use mathlib.Core.Bool.{Bool, true, false, _&&_}
 use mathlib.Core.Path.{_≡_}
 use mathlib.Core.List.{List, [], _∷_}
 use mathlib.Core.Option.{none, some}
 use Prim.Native.Nat.{ℕ, zero, suc, min, _≤_, _<_}
+use lib.Dec.{leb}
 use lib.ListN.{length, getD}
 use Rattle.tagged.specs.Listing.{Broader}
-use Rattle.tagged.specs.Hops.{broaderOf}
+use Rattle.tagged.specs.Hops.{broaderOf, IsBroader}
 use Rattle.tagged.specs.Levels.{longest, levels}
 use Rattle.tagged.specs.Circle.{someMarked, returns, lowest, below, wayTo, circle}
 use Rattle.tagged.specs.TermRows.{broaderRows, mostHeadings, mostTerms, HoldTerms}
@@ -63,9 +64,18 @@ PutLevels n own row after = (levels : List ℕ) → SameRow own levels → lengt
 abbrev pub SameMarks : List Bool → List Bool → Type 0
 SameMarks a b = (x : ℕ) → getD a x false ≡ getD b x false
 
--- the headings from which one hop leads to a marked one
-abbrev pub HopOf : Broader → List Bool → List Bool → Type 0
-HopOf broader marks next = (x : ℕ) → getD next x false ≡ someMarked marks (broaderOf broader x)
+-- the headings, from `low` on, from which one hop leads to a marked one
+abbrev pub HopFrom : Broader → ℕ → List Bool → List Bool → Type 0
+HopFrom broader low marks next = (x : ℕ) → getD next x false ≡ (leb low x && someMarked marks (broaderOf broader x))
+
+-- z stands so many BT hops above x, by headings no lower than `low`
+pub data HopsFrom (broader : Broader) (low : ℕ) : ℕ → ℕ → ℕ → Type 0 where
+  still : {x : ℕ} → HopsFrom broader low 0 x x
+  step : {k x y z : ℕ} → low ≤ x → IsBroader broader x y → HopsFrom broader low k y z → HopsFrom broader low (suc k) x z
+
+-- no heading is marked
+abbrev pub NoMark : List Bool → ℕ → Bool → Type 0
+NoMark marks n r = r ≡ true → (x : ℕ) → x < n → getD marks x false ≡ false
 
 -- the lowest broader term of `here` that is marked, whoever holds these marks of n headings
 abbrev pub LowestAs : Broader → ℕ → List Bool → ℕ → ℕ → Type 0
@@ -76,11 +86,11 @@ abbrev pub lowerOf : Bool → ℕ → ℕ → ℕ
 lowerOf true b low = min b low
 lowerOf false b low = low
 
--- in how many hops, fewer than `best`, x is first reached from itself; `best` if in none
+-- in how many hops, fewer than `best`, x is first reached from itself by headings no lower; `best` if in none
 pub record BackIn (broader : Broader) (x best r : ℕ) : Type 0 where
   pub any : 1 ≤ r
   pub within : r ≤ best
-  pub before : (k : ℕ) → 1 ≤ k → k < r → returns broader k x ≡ false
+  pub before : (k : ℕ) → 1 ≤ k → k < r → HopsFrom broader x k x x → ⊥
   pub back : r < best → returns broader r x ≡ true
 
 -- the hops of a shortest circle and the heading that it starts with; more hops than there are headings, if there is no circle

@@ -8,7 +8,7 @@ ghost use Rattle.tagged.specs.Circle.{someMarked, markAt, below};
 ghost use Rattle.tagged.specs.Saved.{over, savedAs};
 ghost use Rattle.tagged.specs.TermRows.{HoldTerms};
 ghost use Rattle.tagged.specs.Saving.{held, Holding, outcomeOf, SameAs, PutLevels, Low, RoundOf, LevelledAs, AnsweredAs};
-ghost use Rattle.tagged.specs.Saving.{SameMarks, HopOf, LowestAs, lowerOf, BackIn, ShortestAs, wayFrom};
+ghost use Rattle.tagged.specs.Saving.{SameMarks, HopFrom, NoMark, LowestAs, lowerOf, BackIn, ShortestAs, wayFrom};
 use super::terms::HEADINGS;
 use super::terms::ROWS;
 use super::terms::TERMS;
@@ -156,23 +156,39 @@ fn some_marked(
     false
 }
 
-// The headings from which one hop leads to a marked one.
+// The headings, from `low` on, from which one hop leads to a marked one.
 fn one_hop(
     from: &[u16; ROWS],
     to: &[u16; TERMS],
     n: usize,
     marks: &[bool; HEADINGS],
+    low: usize,
 ) -> [bool; HEADINGS]
     requires { ⌜ Holding (now from) (now to) n ⌝ }
-    ensures { λ r. ⌜ HopOf (held (now (from .entry)) (now (to .entry)) n) (now (marks .entry)) r ⌝ }
+    ensures { λ r. ⌜ HopFrom (held (now (from .entry)) (now (to .entry)) n) low (now (marks .entry)) r ⌝ }
 {
     let mut next = [false; HEADINGS];
-    let mut x: usize = 0;
+    let mut x = low;
     while x < n {
         next[x] = some_marked(from, to, n, marks, x);
         x += 1;
     }
     next
+}
+
+// Whether no heading is marked.
+fn no_mark(marks: &[bool; HEADINGS], n: usize) -> bool
+    requires { ⌜ n ≤ 341 ⌝ }
+    ensures { λ r. ⌜ NoMark (now (marks .entry)) n r ⌝ }
+{
+    let mut x: usize = 0;
+    while x < n {
+        if marks[x] {
+            return false;
+        }
+        x += 1;
+    }
+    true
 }
 
 // A mark at heading x alone.
@@ -193,13 +209,13 @@ fn below_in(from: &[u16; ROWS], to: &[u16; TERMS], n: usize, x: usize, k: usize)
     let mut marks = mark_at(n, x);
     let mut i: usize = 0;
     while i < k {
-        marks = one_hop(from, to, n, &marks);
+        marks = one_hop(from, to, n, &marks, 0);
         i += 1;
     }
     marks
 }
 
-// In how many hops, fewer than `best`, x is first reached from itself; `best` if in none.
+// In how many hops, fewer than `best`, x is first reached from itself by headings no lower; `best` if in none.
 fn back_in(from: &[u16; ROWS], to: &[u16; TERMS], n: usize, x: usize, best: usize) -> usize
     requires { ⌜ (Holding (now from) (now to) n) × (x < n) × (1 ≤ best) × (best ≤ 342) ⌝ }
     ensures { λ r. ⌜ BackIn (held (now (from .entry)) (now (to .entry)) n) x best r ⌝ }
@@ -207,9 +223,12 @@ fn back_in(from: &[u16; ROWS], to: &[u16; TERMS], n: usize, x: usize, best: usiz
     let mut marks = mark_at(n, x);
     let mut k: usize = 1;
     while k < best {
-        marks = one_hop(from, to, n, &marks);
+        marks = one_hop(from, to, n, &marks, x);
         if marks[x] {
             return k;
+        }
+        if no_mark(&marks, n) {
+            return best;
         }
         k += 1;
     }
@@ -222,7 +241,7 @@ pub struct Shortest {
     pub first: usize,
 }
 
-// Heading by heading: only fewer hops than before count, so that the lowest heading stays.
+// Heading by heading: only fewer hops than before count, so that the lowest heading stays. A circle is found at its lowest heading.
 fn shortest_circle(from: &[u16; ROWS], to: &[u16; TERMS], n: usize) -> Shortest
     requires { ⌜ Holding (now from) (now to) n ⌝ }
     ensures { λ r. ⌜ ShortestAs (held (now (from .entry)) (now (to .entry)) n) r ⌝ }

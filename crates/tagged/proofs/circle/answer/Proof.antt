@@ -3,18 +3,12 @@ use mathlib.Core.Path.{_≡_}
 use Prim.Native.Nat.{ℕ, _≤_, _<_}
 use native.Mathlib.Omega.{arith}
 use lib.ListN.{length}
+use borrow.Author.Needs.{needs}
 use Rattle.tagged.specs.Saving.{held, Holding}
 use Rattle.tagged.proofs.SavingRows.{held-length}
 use Rattle.tagged.proofs.SavingWays.{answered-levels, answered-circle}
-use borrow.Author.Needs.{needs}
 use Rattle.tagged.proofs.circle.answer.Statement.{statement}
 use Rattle.tagged.proofs.circle.answer.Tie as tie
-use Rattle.tagged.proofs.circle.answer.Reads as reads
-use Rattle.tagged.proofs.circle.answer.Lts as lts
-use Rattle.tagged.proofs.circle.levels_of.Reads as levels-of-reads
-use Rattle.tagged.proofs.circle.put_levels.Reads as put-levels-reads
-use Rattle.tagged.proofs.circle.put_way.Reads as put-way-reads
-use Rattle.tagged.proofs.circle.shortest_circle.Reads as shortest-circle-reads
 
 levels-of-requires : tie.Need-levels-of-requires
 levels-of-requires c κs =
@@ -22,7 +16,7 @@ levels-of-requires c κs =
     record { terms = start .pre .0; places = start .good .1 .0 .1 .0 .1 }
 
 put-levels-requires : tie.Need-put-levels-requires
-put-levels-requires c κs = (c .before .before .before .before .before .before .before .before .pre .0 .few, c .before .before .before .before .before .before .before .before .pre .1)
+put-levels-requires c κs = let start = c .before .before .before .before .before .before .before .before in (start .pre .0 .few, start .pre .1)
 
 same-length : tie.Need-same-length
 same-length c = search needs
@@ -45,7 +39,8 @@ returns-2 : tie.Need-returns-2
 returns-2 c =
     let a = c .before .before .before .before .before .before .before .before .before .args in
     let long = held-length (a .t1) (a .t2) (a .n) 0 in
-    absurd (c .before .before .before .before .before .levels-of .ensures .round (c .before .before .before .before .if1 .left) (c .before .shortest-circle .ensures .missing (omega arith)))
+    let levels = c .before .before .before .before .before .levels-of .ensures in
+    absurd (levels .round (c .before .before .before .before .if1 .left) (c .before .shortest-circle .ensures .missing (omega arith)))
 
 put-way-requires : tie.Need-put-way-requires
 put-way-requires c κs =

@@ -3,17 +3,13 @@ use mathlib.Core.Path.{_≡_}
 use Prim.Native.Nat.{ℕ, _-_, _≤_, _<_}
 use native.Mathlib.Omega.{arith}
 use native.Mathlib.Numerals.{add-one}
+use borrow.Author.Needs.{needs}
 use Rattle.tagged.specs.Circle.{below}
 use Rattle.tagged.specs.Saving.{held, SameMarks}
 use Rattle.tagged.proofs.SavingRows.{held-length}
 use Rattle.tagged.proofs.MarkWays.{below-none, hop-below}
-use borrow.Author.Needs.{needs}
 use Rattle.tagged.proofs.circle.below_in.Statement.{statement}
 use Rattle.tagged.proofs.circle.below_in.Tie as tie
-use Rattle.tagged.proofs.circle.below_in.Reads as reads
-use Rattle.tagged.proofs.circle.below_in.Lts as lts
-use Rattle.tagged.proofs.circle.mark_at.Reads as mark-at-reads
-use Rattle.tagged.proofs.circle.one_hop.Reads as one-hop-reads
 
 abbrev Inv-loop : tie.InvT-loop
 Inv-loop from to n x k marks₀ i₀ marks i = (i ≤ k) × SameMarks marks (below (held from to n) x i)

@@ -2,16 +2,12 @@
 use mathlib.Core.Path.{_≡_}
 use Prim.Native.Nat.{ℕ, _+_, _-_, _≤_, _<_}
 use native.Mathlib.Omega.{arith}
+use borrow.Author.Needs.{needs}
 use Rattle.tagged.specs.Saving.{held}
 use Rattle.tagged.proofs.SavingRows.{held-length}
 use Rattle.tagged.proofs.RoundWays.{Rounded, rounded-none, rounded-low, rounded-more, rounded-clear, rounded-levels, rounded-round}
-use borrow.Author.Needs.{needs}
 use Rattle.tagged.proofs.circle.levels_of.Statement.{statement}
 use Rattle.tagged.proofs.circle.levels_of.Tie as tie
-use Rattle.tagged.proofs.circle.levels_of.Reads as reads
-use Rattle.tagged.proofs.circle.levels_of.Lts as lts
-use Rattle.tagged.proofs.circle.one_round.Reads as one-round-reads
-use Rattle.tagged.proofs.circle.same_row.Reads as same-row-reads
 
 abbrev Inv-loop : tie.InvT-loop
 Inv-loop from to n row₀ k₀ row k = (k ≤ n + 1) × Rounded (held from to n) k row
@@ -39,10 +35,10 @@ returns c =
     let broader = held (a .from .now) (a .to .now) (a .n) in
     let long = held-length (a .from .now) (a .to .now) (a .n) 0 in
     let alike = c .before .same-row .ensures .same (c .if1 .taken) in
-    let round = c .before .before .before .before .one-round .ensures in
+    let next = c .before .before .before .before .one-round in
     record {
-      clear = λ e. rounded-clear broader (loop .k) (a .n) (loop .row) (c .before .before .before .before .one-round .result) long (loop .inv .1) round alike;
-      row = λ e. rounded-levels broader (loop .k) (a .n) (loop .row) (c .before .before .before .before .one-round .result) long (loop .inv .1) round alike (omega arith);
+      clear = λ e. rounded-clear broader (loop .k) (a .n) (loop .row) (next .result) long (loop .inv .1) (next .ensures) alike;
+      row = λ e. rounded-levels broader (loop .k) (a .n) (loop .row) (next .result) long (loop .inv .1) (next .ensures) alike (omega arith);
       round = λ e. absurd (let z : _≡_ {A = ℕ} 0 1 = cc in omega arith);
     }
 
@@ -58,7 +54,8 @@ loop-again c =
     let loop = c .before .before .before .before .before .before .before .loop in
     let broader = held (a .from .now) (a .to .now) (a .n) in
     let differ = c .before .same-row .ensures .other (c .if1 .left) in
-    (omega arith, rounded-more broader (loop .k) (loop .row) (c .before .before .before .before .one-round .result) (loop .inv .1) (c .before .before .before .before .one-round .ensures) differ)
+    let next = c .before .before .before .before .one-round in
+    (omega arith, rounded-more broader (loop .k) (loop .row) (next .result) (loop .inv .1) (next .ensures) differ)
 
 returns-2 : tie.Need-returns-2 Inv-loop μ-loop
 returns-2 c =

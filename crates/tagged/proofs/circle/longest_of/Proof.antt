@@ -2,20 +2,15 @@ use mathlib.Core.Path.{_≡_, sym, ap, _∙_}
 use Prim.Native.Nat.{ℕ, _+_, _-_, _≤_, _<_, max}
 use native.Mathlib.Omega.{arith}
 use lib.ListN.{length, getD}
+use borrow.Author.Needs.{needs}
 use Rattle.tagged.specs.Hops.{broaderOf}
 use Rattle.tagged.specs.Levels.{longest}
 use Rattle.tagged.specs.Places.{bytesOf}
 use Rattle.tagged.specs.Saving.{held}
 use Rattle.tagged.proofs.SavingRows.{broader-at, end-low, end-in, term-low}
 use Rattle.tagged.proofs.RoundWays.{longest-more, longest-none}
-use borrow.Author.Needs.{needs}
 use Rattle.tagged.proofs.circle.longest_of.Statement.{statement}
 use Rattle.tagged.proofs.circle.longest_of.Tie as tie
-use Rattle.tagged.proofs.circle.longest_of.Reads as reads
-use Rattle.tagged.proofs.circle.longest_of.Lts as lts
-use Rattle.tagged.proofs.circle.larger.Reads as larger-reads
-use Rattle.tagged.proofs.circle.place.Reads as place-reads
-use Rattle.tagged.proofs.circle.term.Reads as term-reads
 
 abbrev Inv-loop : tie.InvT-loop
 Inv-loop from to n row x until i₀ best₀ i best = longest row (broaderOf (held from to n) x) ≡ max best (longest row (bytesOf to i until))
@@ -93,7 +88,8 @@ loop-again c =
     let a = start .args in
     let loop = c .before .before .before .before .loop in
     let until = c .before .before .before .before .before .before .place in
-    let within : until .result ≤ length (a .to .now) = omega (arith, until .ensures, end-in (a .from .now) (a .to .now) (a .n) (start .pre .0) (a .x) (start .pre .1)) in
+    let end = end-in (a .from .now) (a .to .now) (a .n) (start .pre .0) (a .x) (start .pre .1) in
+    let within : until .result ≤ length (a .to .now) = omega (arith, until .ensures) in
     let more = longest-more (a .row .now) (a .to .now) (loop .i) (until .result) (omega arith) within in
     let term = c .before .before .term .ensures in
     omega (arith, loop .inv, c .larger .ensures, ap (λ (b : ℕ). getD (a .row .now) b 0) term)

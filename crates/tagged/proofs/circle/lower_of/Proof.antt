@@ -1,10 +1,7 @@
 -- `lower_of` meets its contract.
 use native.Mathlib.Omega.{arith}
-use borrow.Author.Needs.{needs}
 use Rattle.tagged.proofs.circle.lower_of.Statement.{statement}
 use Rattle.tagged.proofs.circle.lower_of.Tie as tie
-use Rattle.tagged.proofs.circle.lower_of.Reads as reads
-use Rattle.tagged.proofs.circle.lower_of.Lts as lts
 
 returns : tie.Need-returns
 returns c = rw (c .before .if1 .taken) (omega arith)

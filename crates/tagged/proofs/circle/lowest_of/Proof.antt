@@ -5,20 +5,15 @@ use mathlib.Core.List.{List}
 use Prim.Native.Nat.{ℕ, _+_, _-_, _≤_, _<_, min}
 use native.Mathlib.Omega.{arith}
 use lib.ListN.{length, getD}
+use borrow.Author.Needs.{needs}
 use Rattle.tagged.specs.Hops.{broaderOf}
 use Rattle.tagged.specs.Circle.{lowest}
 use Rattle.tagged.specs.Places.{bytesOf}
 use Rattle.tagged.specs.Saving.{held, SameMarks, lowerOf}
 use Rattle.tagged.proofs.SavingRows.{broader-at, broader-past, end-low, end-in, term-low}
 use Rattle.tagged.proofs.MarkWays.{lowest-more, lowest-none, lowest-nobody, lowest-within, lower-turn, lower-less}
-use borrow.Author.Needs.{needs}
 use Rattle.tagged.proofs.circle.lowest_of.Statement.{statement}
 use Rattle.tagged.proofs.circle.lowest_of.Tie as tie
-use Rattle.tagged.proofs.circle.lowest_of.Reads as reads
-use Rattle.tagged.proofs.circle.lowest_of.Lts as lts
-use Rattle.tagged.proofs.circle.lower_of.Reads as lower-of-reads
-use Rattle.tagged.proofs.circle.place.Reads as place-reads
-use Rattle.tagged.proofs.circle.term.Reads as term-reads
 
 abbrev Inv-loop : tie.InvT-loop
 Inv-loop from to n marks here until i₀ low₀ i low =
@@ -101,7 +96,8 @@ returns-2 : tie.Need-returns-2 Inv-loop μ-loop
 returns-2 c =
     let a = c .before .before .before .before .before .args in
     let loop = c .before .loop in
-    λ own same long. omega (arith, loop .inv .0, loop .inv .1 own same long, lowest-none own (a .to .now) (loop .i) (c .before .before .before .place .result) (omega arith))
+    let until = c .before .before .before .place .result in
+    λ own same long. omega (arith, loop .inv .0, loop .inv .1 own same long, lowest-none own (a .to .now) (loop .i) until (omega arith))
 
 pub lowest-of-spec : {M : Type 1} → statement M
 lowest-of-spec =

@@ -1,10 +1,8 @@
 -- `mark_at` meets its contract: a mark among more headings.
-use Rattle.tagged.proofs.MarkWays.{mark-same}
 use borrow.Author.Needs.{needs}
+use Rattle.tagged.proofs.MarkWays.{mark-same}
 use Rattle.tagged.proofs.circle.mark_at.Statement.{statement}
 use Rattle.tagged.proofs.circle.mark_at.Tie as tie
-use Rattle.tagged.proofs.circle.mark_at.Reads as reads
-use Rattle.tagged.proofs.circle.mark_at.Lts as lts
 
 array-write-marks : tie.Need-array-write-marks
 array-write-marks c = search needs

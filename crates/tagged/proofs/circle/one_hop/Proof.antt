@@ -1,27 +1,25 @@
--- `one_hop` meets its contract: the marks are filled heading by heading.
-use mathlib.Core.Bool.{Bool, true, false}
+-- `one_hop` meets its contract: the marks are filled heading by heading, from `low` on.
+use mathlib.Core.Bool.{Bool, true, false, _&&_}
 use Prim.Native.Nat.{ℕ, _-_, _≤_, _<_}
 use native.Mathlib.Omega.{arith}
+use lib.Dec.{leb}
+use borrow.Author.Needs.{needs}
 use Rattle.tagged.specs.Hops.{broaderOf}
 use Rattle.tagged.specs.Circle.{someMarked}
 use Rattle.tagged.specs.Saving.{held}
-use Rattle.tagged.proofs.SavingRows.{Filled, fill-none, fill-more, fill-all, broader-past}
-use Rattle.tagged.proofs.MarkWays.{some-nobody}
-use borrow.Author.Needs.{needs}
+use Rattle.tagged.proofs.SavingRows.{Filled, fill-from, fill-more, fill-all, broader-past}
+use Rattle.tagged.proofs.MarkWays.{hop-low, hop-high, hop-past}
 use Rattle.tagged.proofs.circle.one_hop.Statement.{statement}
 use Rattle.tagged.proofs.circle.one_hop.Tie as tie
-use Rattle.tagged.proofs.circle.one_hop.Reads as reads
-use Rattle.tagged.proofs.circle.one_hop.Lts as lts
-use Rattle.tagged.proofs.circle.some_marked.Reads as some-marked-reads
 
 abbrev Inv-loop : tie.InvT-loop
-Inv-loop from to n marks next₀ x₀ next x = (x ≤ n) × Filled (λ (y : ℕ). someMarked marks (broaderOf (held from to n) y)) false 341 next x
+Inv-loop from to n marks low next₀ x₀ next x = (low ≤ x) × Filled (λ (y : ℕ). leb low y && someMarked marks (broaderOf (held from to n) y)) false 341 next x
 
 abbrev μ-loop : tie.MeasureT-loop
-μ-loop from to n marks next₀ x₀ next x = n - x
+μ-loop from to n marks low next₀ x₀ next x = n - x
 
 loop-holds : tie.Need-loop-holds Inv-loop μ-loop
-loop-holds c = (omega arith, fill-none _ false 341)
+loop-holds c = (omega arith, fill-from _ false 341 (c .args .low) (λ y less. hop-low (c .args .low) y _ less))
 
 some-marked-requires : tie.Need-some-marked-requires Inv-loop μ-loop
 some-marked-requires c κs = (c .before .before .pre, c .loop-test .taken)
@@ -37,8 +35,12 @@ loop-less c = search needs
 
 loop-again : tie.Need-loop-again Inv-loop μ-loop
 loop-again c =
-    let low : c .before .before .loop .x < 341 = omega (arith, c .before .before .before .pre .terms .few) in
-    (omega arith, fill-more _ false 341 (c .before .before .loop .next) (c .before .before .loop .x) (c .some-marked .result) low (c .some-marked .ensures) (c .before .before .loop .inv .1))
+    let loop = c .before .before .loop in
+    let low : loop .x < 341 = omega (arith, c .before .before .before .pre .terms .few) in (
+      omega arith,
+      fill-more _ false 341 (loop .next) (loop .x) (c .some-marked .result) low
+          (hop-high (c .before .before .before .args .low) (loop .x) (c .some-marked .result) _ (loop .inv .0) (c .some-marked .ensures)) (loop .inv .1),
+    )
 
 returns : tie.Need-returns Inv-loop μ-loop
 returns c =
@@ -46,7 +48,9 @@ returns c =
     let loop = c .before .loop in
     let broader = held (a .from .now) (a .to .now) (a .n) in
     fill-all _ false 341 (loop .next) (loop .x) (loop .inv .1)
-    (λ y past. some-nobody (a .marks .now) (broaderOf broader y) (broader-past (a .from .now) (a .to .now) (a .n) (c .before .before .pre) y (omega arith)))
+    (λ y past.
+    let nobody = broader-past (a .from .now) (a .to .now) (a .n) (c .before .before .pre) y (omega arith) in
+    hop-past (a .low) y (a .marks .now) (broaderOf broader y) nobody)
 
 pub one-hop-spec : {M : Type 1} → statement M
 one-hop-spec =

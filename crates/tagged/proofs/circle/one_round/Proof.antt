@@ -1,17 +1,14 @@
 -- `one_round` meets its contract: the row is filled heading by heading.
 use Prim.Native.Nat.{ℕ, _-_, _≤_, _<_}
 use native.Mathlib.Omega.{arith}
+use borrow.Author.Needs.{needs}
 use Rattle.tagged.specs.Hops.{broaderOf}
 use Rattle.tagged.specs.Levels.{longest}
 use Rattle.tagged.specs.Saving.{held}
 use Rattle.tagged.proofs.SavingRows.{Filled, fill-none, fill-more, fill-all, broader-past}
 use Rattle.tagged.proofs.RoundWays.{longest-nobody}
-use borrow.Author.Needs.{needs}
 use Rattle.tagged.proofs.circle.one_round.Statement.{statement}
 use Rattle.tagged.proofs.circle.one_round.Tie as tie
-use Rattle.tagged.proofs.circle.one_round.Reads as reads
-use Rattle.tagged.proofs.circle.one_round.Lts as lts
-use Rattle.tagged.proofs.circle.longest_of.Reads as longest-of-reads
 
 abbrev Inv-loop : tie.InvT-loop
 Inv-loop from to n row next₀ x₀ next x = (x ≤ n) × Filled (λ (y : ℕ). longest row (broaderOf (held from to n) y)) 0 341 next x
@@ -40,7 +37,8 @@ loop-less c = search needs
 loop-again : tie.Need-loop-again Inv-loop μ-loop
 loop-again c =
     let low : c .before .before .loop .x < 341 = omega (arith, c .before .before .before .pre .0 .terms .few) in
-    (omega arith, fill-more _ 0 341 (c .before .before .loop .next) (c .before .before .loop .x) (c .longest-of .result) low (c .longest-of .ensures) (c .before .before .loop .inv .1))
+    let loop = c .before .before .loop in
+    (omega arith, fill-more _ 0 341 (loop .next) (loop .x) (c .longest-of .result) low (c .longest-of .ensures) (loop .inv .1))
 
 returns : tie.Need-returns Inv-loop μ-loop
 returns c =

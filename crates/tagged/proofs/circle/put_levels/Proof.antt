@@ -4,13 +4,11 @@ use mathlib.Core.List.{List}
 use Prim.Native.Nat.{ℕ, _-_, _≤_, _<_}
 use native.Mathlib.Omega.{arith}
 use lib.ListN.{length, drop, length-set}
+use borrow.Author.Needs.{needs}
 use Rattle.tagged.specs.Saving.{SameRow}
 use Rattle.tagged.proofs.SavingRows.{Front, front-none, level-more, level-all}
-use borrow.Author.Needs.{needs}
 use Rattle.tagged.proofs.circle.put_levels.Statement.{statement}
 use Rattle.tagged.proofs.circle.put_levels.Tie as tie
-use Rattle.tagged.proofs.circle.put_levels.Reads as reads
-use Rattle.tagged.proofs.circle.put_levels.Lts as lts
 
 abbrev Inv-loop : tie.InvT-loop
 Inv-loop own n row₀ x₀ row x =

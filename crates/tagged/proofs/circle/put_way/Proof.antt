@@ -3,16 +3,12 @@ use mathlib.Core.Path.{_≡_, refl}
 use Prim.Native.Nat.{ℕ, _+_, _-_, _≤_, _<_}
 use native.Mathlib.Omega.{arith}
 use lib.ListN.{length, length-set}
+use borrow.Author.Needs.{needs}
 use Rattle.tagged.specs.Saving.{held, wayFrom}
 use Rattle.tagged.proofs.SavingRows.{held-length, Front, front-none, front-more, front-all}
 use Rattle.tagged.proofs.MarkWays.{next-low, way-more, way-done}
-use borrow.Author.Needs.{needs}
 use Rattle.tagged.proofs.circle.put_way.Statement.{statement}
 use Rattle.tagged.proofs.circle.put_way.Tie as tie
-use Rattle.tagged.proofs.circle.put_way.Reads as reads
-use Rattle.tagged.proofs.circle.put_way.Lts as lts
-use Rattle.tagged.proofs.circle.below_in.Reads as below-in-reads
-use Rattle.tagged.proofs.circle.lowest_of.Reads as lowest-of-reads
 
 abbrev Inv-loop : tie.InvT-loop
 Inv-loop from to n first hops row₀ here₀ i₀ row here i =
@@ -67,7 +63,8 @@ loop-again c =
     let same = c .before .before .below-in .ensures in
     let low = c .lowest-of .ensures in
     let next = c .lowest-of .result in
-    let more = way-more broader (a .first) left (loop .here) next (a .n) marks long same low (a .hops - loop .i) (a .hops - (loop .i + 1)) (omega arith) (omega arith) in (
+    let one-less = a .hops - (loop .i + 1) in
+    let more = way-more broader (a .first) left (loop .here) next (a .n) marks long same low (a .hops - loop .i) one-less (omega arith) (omega arith) in (
       omega arith,
       next-low broader (a .first) left (loop .here) next (a .n) marks long same low,
       simp length-set (loop .inv .2),
@@ -85,7 +82,8 @@ returns c =
     let loop = c .before .loop in
     let broader = held (a .from .now) (a .to .now) (a .n) in
     let e : a .hops - loop .i ≡ 0 = omega arith in
-    front-all (wayFrom broader (a .first) (a .hops) (a .first)) (a .row .now) (loop .row) (loop .i) (omega (arith, loop .inv .0, c .before .before .before .pre .2, loop .inv .2))
+    let within : loop .i ≤ length (loop .row) = omega (arith, loop .inv .0, c .before .before .before .pre .2, loop .inv .2) in
+    front-all (wayFrom broader (a .first) (a .hops) (a .first)) (a .row .now) (loop .row) (loop .i) within
     (rw (e, way-done broader (a .first) (loop .here)) at (loop .inv .3))
 
 pub put-way-spec : {M : Type 1} → statement M

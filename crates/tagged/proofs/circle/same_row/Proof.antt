@@ -7,8 +7,6 @@ use lib.ListN.{getD}
 use borrow.Author.Needs.{needs}
 use Rattle.tagged.proofs.circle.same_row.Statement.{statement}
 use Rattle.tagged.proofs.circle.same_row.Tie as tie
-use Rattle.tagged.proofs.circle.same_row.Reads as reads
-use Rattle.tagged.proofs.circle.same_row.Lts as lts
 
 abbrev Inv-loop : tie.InvT-loop
 Inv-loop a b n x₀ x = (x ≤ n) × ((y : ℕ) → y < x → getD a y 0 ≡ getD b y 0)
@@ -32,7 +30,9 @@ element-copy-out-if1-2 : tie.Need-element-copy-out-if1-2 Inv-loop μ-loop
 element-copy-out-if1-2 c = omega (arith, c .before .before .before .pre)
 
 returns : tie.Need-returns Inv-loop μ-loop
-returns c = record { same = λ e. absurd (let z : _≡_ {A = ℕ} 0 1 = cc in omega arith); other = λ e same. c .if1 .taken (same (c .before .before .before .before .loop .x)) }
+returns c =
+    let loop = c .before .before .before .before .loop in
+    record { same = λ e. absurd (let z : _≡_ {A = ℕ} 0 1 = cc in omega arith); other = λ e same. c .if1 .taken (same (loop .x)) }
 
 add-x : tie.Need-add-x Inv-loop μ-loop
 add-x c = search needs

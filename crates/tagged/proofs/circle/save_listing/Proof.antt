@@ -3,14 +3,10 @@ use mathlib.Core.Path.{_≡_}
 use Prim.Native.Nat.{ℕ, _≤_, _<_}
 use native.Mathlib.Omega.{arith}
 use lib.ListN.{length}
-use Rattle.tagged.proofs.SavingWays.{saved-refused, saved-short, saved-hold, saved-answer}
 use borrow.Author.Needs.{needs}
+use Rattle.tagged.proofs.SavingWays.{saved-refused, saved-short, saved-hold, saved-answer}
 use Rattle.tagged.proofs.circle.save_listing.Statement.{statement}
 use Rattle.tagged.proofs.circle.save_listing.Tie as tie
-use Rattle.tagged.proofs.circle.save_listing.Reads as reads
-use Rattle.tagged.proofs.circle.save_listing.Lts as lts
-use Rattle.tagged.proofs.circle.answer.Reads as answer-reads
-use Rattle.tagged.proofs.terms.terms_of.Reads as terms-of-reads
 
 terms-of-requires : tie.Need-terms-of-requires
 terms-of-requires c κs = search needs
@@ -40,7 +36,10 @@ returns-3 : tie.Need-returns-3
 returns-3 c =
     let a = c .before .before .before .before .before .before .before .before .before .before .before .before .args in
     let t = c .before .before .before .before .before .before .before .before .before .terms-of in
-    saved-answer (t .result) (a .s .now) (a .row .now) (t .ensures) (c .before .before .before .before .before .before .before .if1 .left) (c .before .before .answer .result) _ (c .before .before .before .before .before .before .if2 .left) (c .before .before .answer .ensures)
+    let answer = c .before .before .answer in
+    let good = c .before .before .before .before .before .before .before .if1 .left in
+    let long = c .before .before .before .before .before .before .if2 .left in
+    saved-answer (t .result) (a .s .now) (a .row .now) (t .ensures) good (answer .result) _ long (answer .ensures)
 
 pub save-listing-spec : {M : Type 1} → statement M
 save-listing-spec =

@@ -4,15 +4,12 @@ use mathlib.Core.Logic.{⊎-elim}
 use Prim.Native.Nat.{ℕ, _+_, _-_, _≤_, _<_}
 use native.Mathlib.Omega.{arith}
 use lib.ListN.{length}
+use borrow.Author.Needs.{needs}
 use Rattle.tagged.specs.Saving.{held}
 use Rattle.tagged.proofs.SavingRows.{held-length}
 use Rattle.tagged.proofs.MarkWays.{Sought, sought-none, sought-same, sought-shorter, sought-found, sought-missing}
-use borrow.Author.Needs.{needs}
 use Rattle.tagged.proofs.circle.shortest_circle.Statement.{statement}
 use Rattle.tagged.proofs.circle.shortest_circle.Tie as tie
-use Rattle.tagged.proofs.circle.shortest_circle.Reads as reads
-use Rattle.tagged.proofs.circle.shortest_circle.Lts as lts
-use Rattle.tagged.proofs.circle.back_in.Reads as back-in-reads
 
 abbrev Inv-loop : tie.InvT-loop
 Inv-loop from to n hops₀ first₀ x₀ hops first x = (x ≤ n) × Sought (held from to n) x hops first

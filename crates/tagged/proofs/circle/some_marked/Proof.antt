@@ -4,19 +4,15 @@ use mathlib.Core.Bool.{Bool, true, false}
 use Prim.Native.Nat.{ℕ, _+_, _-_, _≤_, _<_}
 use native.Mathlib.Omega.{arith}
 use lib.ListN.{length, getD}
+use borrow.Author.Needs.{needs}
 use Rattle.tagged.specs.Hops.{broaderOf}
 use Rattle.tagged.specs.Circle.{someMarked}
 use Rattle.tagged.specs.Places.{bytesOf}
 use Rattle.tagged.specs.Saving.{held}
 use Rattle.tagged.proofs.SavingRows.{broader-at, end-low, end-in, term-low}
 use Rattle.tagged.proofs.MarkWays.{some-here, some-later, some-none}
-use borrow.Author.Needs.{needs}
 use Rattle.tagged.proofs.circle.some_marked.Statement.{statement}
 use Rattle.tagged.proofs.circle.some_marked.Tie as tie
-use Rattle.tagged.proofs.circle.some_marked.Reads as reads
-use Rattle.tagged.proofs.circle.some_marked.Lts as lts
-use Rattle.tagged.proofs.circle.place.Reads as place-reads
-use Rattle.tagged.proofs.circle.term.Reads as term-reads
 
 abbrev Inv-loop : tie.InvT-loop
 Inv-loop from to n marks x until i₀ i = someMarked marks (broaderOf (held from to n) x) ≡ someMarked marks (bytesOf to i until)
@@ -37,7 +33,8 @@ loop-holds : tie.Need-loop-holds Inv-loop μ-loop
 loop-holds c =
     let a = c .before .before .args in
     let pre = c .before .before .pre in
-    rw (c .place2 .ensures, c .before .place .ensures) (ap (someMarked (a .marks .now)) (broader-at (a .from .now) (a .to .now) (a .n) (pre .0) (a .x) (pre .1)))
+    let whole = broader-at (a .from .now) (a .to .now) (a .n) (pre .0) (a .x) (pre .1) in
+    rw (c .place2 .ensures, c .before .place .ensures) (ap (someMarked (a .marks .now)) whole)
 
 term-requires : tie.Need-term-requires Inv-loop μ-loop
 term-requires c κs =
@@ -59,7 +56,8 @@ returns c =
     let a = start .args in
     let loop = c .before .before .before .before .loop in
     let until = c .before .before .before .before .before .before .place in
-    let within : until .result ≤ length (a .to .now) = omega (arith, until .ensures, end-in (a .from .now) (a .to .now) (a .n) (start .pre .0) (a .x) (start .pre .1)) in
+    let end = end-in (a .from .now) (a .to .now) (a .n) (start .pre .0) (a .x) (start .pre .1) in
+    let within : until .result ≤ length (a .to .now) = omega (arith, until .ensures) in
     let is : getD (a .marks .now) (getD (a .to .now) (loop .i) 0) false ≡ true = rw (c .before .before .term .ensures) at (c .if1 .taken) in
     sym (loop .inv ∙ some-here (a .marks .now) (a .to .now) (loop .i) (until .result) (omega arith) within is)
 
@@ -75,7 +73,8 @@ loop-again c =
     let a = start .args in
     let loop = c .before .before .before .before .loop in
     let until = c .before .before .before .before .before .before .place in
-    let within : until .result ≤ length (a .to .now) = omega (arith, until .ensures, end-in (a .from .now) (a .to .now) (a .n) (start .pre .0) (a .x) (start .pre .1)) in
+    let end = end-in (a .from .now) (a .to .now) (a .n) (start .pre .0) (a .x) (start .pre .1) in
+    let within : until .result ≤ length (a .to .now) = omega (arith, until .ensures) in
     let is : getD (a .marks .now) (getD (a .to .now) (loop .i) 0) false ≡ false = rw (c .before .before .term .ensures) at (c .if1 .left) in
     loop .inv ∙ some-later (a .marks .now) (a .to .now) (loop .i) (until .result) (omega arith) within is
 
