@@ -43,6 +43,7 @@ use Rattle.tagged.proofs.save_listing.Met as saved-so
 use Rattle.tagged.proofs.save_listing.Symbol as save-symbol
 use Rattle.above.specs.Promised.{asking}
 use Rattle.above.proofs.Promised.{promised}
+use Rattle.above.proofs.TooLarge.{told-43}
 use Rattle.nights.specs.Nights.{bookIn, Told, Nights}
 use Rattle.nights.proofs.Nights.{nights}
 use Rattle.run.specs.Outcomes.{after}
@@ -81,6 +82,8 @@ writes : (listing room : List ℕ) → Writes listing room (bookFrom listing roo
 writes listing room = record {
   says = promised listing room;
   tells = nights listing room;
+  only43 = told-43 listing room .only;
+  always43 = λ broader line says over. ap (λ (o : Write.Outcome). o .result .number) (told-43 listing room .always broader line says over);
   untouched = book-kept listing room .0;
   behind = book-kept listing room .1;
 }

@@ -11,6 +11,7 @@ use Rattle.tagged.specs.Told.{FirstCircle, IsLevel}
 use Rattle.tagged.specs.Write as Write
 use Rattle.tagged.specs.Saved as Saved
 use Rattle.above.specs.Promised.{Promised}
+use Rattle.above.specs.TooLarge.{TooLarge}
 use Rattle.nights.specs.Nights.{bookIn, Nights}
 
 -- of the book of a listing, written into this room
@@ -19,6 +20,9 @@ pub record Writes (listing room : List ℕ) (o : Write.Outcome) : Type 0 where
   pub says : o .result .number ≡ 0 → Promised listing o
   -- what runs over it tell, and when they are finished
   pub tells : (done : o .result .number ≡ 0) → Nights (says done .broader) (bookIn o)
+  -- "43 the book would pass a size in document 01 or the room lent": told exactly where the reader would refuse the bytes or the room is too short
+  pub only43 : o .result .number ≡ 43 → (broader : Broader) × (line : ℕ) × (broaderIn listing ≡ got broader line) × TooLarge broader room
+  pub always43 : (broader : Broader) (line : ℕ) → broaderIn listing ≡ got broader line → TooLarge broader room → o .result .number ≡ 43
   -- "nothing is written" on a refusal, and never anything behind the book
   pub untouched : (o .result .number ≡ 0 → ⊥) → o .room ≡ room
   pub behind : drop (o .result .bytes) (o .room) ≡ drop (o .result .bytes) room
