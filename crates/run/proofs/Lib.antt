@@ -12,6 +12,7 @@ pub mod QuestionStands
 pub mod Hops
 pub mod Variables
 pub mod Meeting
+pub mod Levels
 pub mod Looking
 pub mod Steering
 pub mod Behind
