@@ -11,6 +11,10 @@ use Rattle.converter.specs.declared.Conversion.{Conversion}
 use Rattle.converter.specs.declared.made.Places.{Places}
 use Rattle.converter.specs.declared.made.Made.{Made}
 
+-- Places of a new book that is made are no further than this, whatever the old bytes are: each item takes at most ten times a book's size.
+abbrev pub furthest : ℕ
+furthest = 68719476736
+
 -- what opens at p was put at q, over the bytes that were there
 pub record SpotPut (bs ends : List ℕ) (p : ℕ) (was : List ℕ) (q : ℕ) (to : Places) (is : List ℕ) : Type 0 where
   pub old : to .old ≡ spotBehind bs ends p

@@ -24,6 +24,7 @@ module _ (bs ends : List ℕ) where
   spotOf (suc zero) p = 1 ∷ ruleAt p
   spotOf (suc (suc c)) p = 2 ∷ getD bs (p + 1) 0 ∷ []
 
+  -- and where that is in the old book
   unfoldable pub behindOf : ℕ → ℕ → ℕ
   behindOf zero p = p + 1
   behindOf (suc zero) p = p + 1 + length (ruleAt p)
@@ -65,5 +66,6 @@ module _ (bs ends : List ℕ) where
   abbrev pub items : ℕ → List ℕ
   items p = itemsIn (length bs - p) p
 
+  -- the whole new book: the tree part stands behind the symbol part, and its trees behind its length
   unfoldable pub scanned : List ℕ
   scanned = front bs ++ counted (items (3 + bigEndian bs 1 + 2))

@@ -5,7 +5,7 @@ ghost use Prim.Native.Nat.{_+_, _*_, _<_, _≤_};
 ghost use lib.ListN.{length, getD};
 ghost use Rattle.limits.specs.Sizes.{mostBookBytes};
 ghost use Rattle.converter.specs.Scan.{spots, itemTo, items, front, scanned};
-ghost use Rattle.converter.specs.InCode.{SpotPut, Put, MadeOf};
+ghost use Rattle.converter.specs.InCode.{furthest, SpotPut, Put, MadeOf};
 use super::put::put_byte;
 use super::put::put_part;
 use super::put::put_two;
@@ -41,7 +41,7 @@ fn put_spot(
     made: &mut [u8; Limits::BOOK],
     q: usize,
 ) -> Places
-    requires { ⌜ (length (now book) ≤ mostBookBytes) × (p < 1099511627776) × (q < 1099511627776) ⌝ }
+    requires { ⌜ (length (now book) ≤ mostBookBytes) × (p ≤ furthest) × (q ≤ 2 * furthest) ⌝ }
     ensures { λ r. ⌜ SpotPut (now (book .entry)) (now (ends .entry)) p (now (made .entry)) q r (now (made .exit)) ⌝ }
 {
     let code = byte(book, p);
@@ -79,7 +79,7 @@ fn put_spots(
     made: &mut [u8; Limits::BOOK],
     q: usize,
 ) -> usize
-    requires { ⌜ (length (now book) ≤ mostBookBytes) × (p ≤ e) × (e ≤ 4 * mostBookBytes) × (q < 549755813888) ⌝ }
+    requires { ⌜ (length (now book) ≤ mostBookBytes) × (p ≤ e) × (e ≤ 4 * mostBookBytes) × (q ≤ furthest + 2) ⌝ }
     ensures { λ r. ⌜ Put (spots (now (book .entry)) (now (ends .entry)) e p) (now (made .entry)) q (q + 9 * mostBookBytes) r (now (made .exit)) ⌝ }
 {
     let mut at = Places { old: p, new: q };
@@ -98,7 +98,7 @@ fn put_item(
     made: &mut [u8; Limits::BOOK],
     q: usize,
 ) -> usize
-    requires { ⌜ (length (now book) ≤ mostBookBytes) × (p + 2 ≤ e) × (e ≤ 4 * mostBookBytes) × (q < 274877906944) ⌝ }
+    requires { ⌜ (length (now book) ≤ mostBookBytes) × (p + 2 ≤ e) × (e ≤ 4 * mostBookBytes) × (q ≤ furthest) ⌝ }
     ensures { λ r. ⌜ Put (itemTo (now (book .entry)) (now (ends .entry)) e p) (now (made .entry)) q (q + 10 * mostBookBytes) r (now (made .exit)) ⌝ }
 {
     let r = put_spots(book, ends, e, p + 2, made, q + 2);
@@ -114,8 +114,8 @@ fn put_items(
     made: &mut [u8; Limits::BOOK],
     q: usize,
 ) -> usize
-    requires { ⌜ (length (now book) ≤ mostBookBytes) × (p ≤ 4 * mostBookBytes) × (q < 4294967296) ⌝ }
-    ensures { λ r. ⌜ Put (items (now (book .entry)) (now (ends .entry)) p) (now (made .entry)) q 274877906944 r (now (made .exit)) ⌝ }
+    requires { ⌜ (length (now book) ≤ mostBookBytes) × (p ≤ 4 * mostBookBytes) × (q ≤ 2 * mostBookBytes) ⌝ }
+    ensures { λ r. ⌜ Put (items (now (book .entry)) (now (ends .entry)) p) (now (made .entry)) q furthest r (now (made .exit)) ⌝ }
 {
     let mut old = p;
     let mut new = q;

@@ -2,7 +2,7 @@
 use mathlib.Core.Path.{refl}
 use Rattle.limits.specs.Decisions as Decisions
 use Rattle.nodes.specs.Numbers as Numbers
-use Rattle.rewriting.proofs.Lists as Lists
+use Rattle.rewriting.specs.Lists as Lists
 use Rattle.accepted.specs.Read as Read
 use Rattle.accepted.specs.Faults as Faults
 use Rattle.accepted.specs.GoOn as GoOn

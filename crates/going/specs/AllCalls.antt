@@ -21,6 +21,6 @@ pub data Calls (B : Book) (q : Expr) : List Answer → State → Type 0 where
 
 -- what is promised of all answers; nothing waits once a call ended with 0
 pub record AllAnswered (rules : Rules) (q : Expr) (all : List Answer) (s : State) : Type 0 where
-  pub accepted : (i : ℕ) → i < length all → (v : Value) × (answerAt all i .symbols ≡ flatten v) × Reachable rules q v
+  pub sound : (i : ℕ) → i < length all → (v : Value) × (answerAt all i .symbols ≡ flatten v) × Reachable rules q v
   pub complete : s .waiting ≡ [] → (v : Value) → Reachable rules q v → (i : ℕ) × (i < length all) × (answerAt all i .symbols ≡ flatten v)
   pub apart : (i j : ℕ) → i ≢ j → i < length all → j < length all → Apart (answerAt all i .decisions) (answerAt all j .decisions)

@@ -1,7 +1,7 @@
 -- The listing's two functions keep what is promised: corollaries of the contracts of `tagged::write_listing` and `tagged::save_listing` alone, which the kit makes
 -- of their `ensures` in the code. And of a call of `run` over a book that was written so: what it tells of a heading.
 use mathlib.Core.Bool.{Bool, true, false, _||_}
-use mathlib.Core.Path.{_≡_, refl, sym, ap, subst, _∙_}
+use mathlib.Core.Path.{_≡_, refl, sym, ap, ap₂, subst, _∙_}
 use mathlib.Core.Option.{Option, none, some}
 use mathlib.Core.List.{List, [], _∷_, _++_}
 use Prim.Native.Nat.{ℕ, zero, suc, _+_, _<_}
@@ -20,13 +20,14 @@ use denote.Triple.Spec.{Meets}
 use denote.Triple.Table.{run-framed}
 use denote.Triple.Weaken.{weaken}
 use Rattle.reading.specs.Reading.{Reading, got, refusal}
+use Rattle.machine.specs.Run.{Memory, Outcome, run}
 use Rattle.tagged.specs.Listing.{Broader, broaderIn}
 use Rattle.tagged.specs.Hops.{IsBroader, Above}
 use Rattle.tagged.specs.Terms.{rulesFor}
 use Rattle.tagged.specs.Laid.{laid}
 use Rattle.tagged.specs.Levels.{longest, chains, levels}
 use Rattle.tagged.specs.Circle.{circle}
-use Rattle.tagged.specs.Told.{FirstCircle}
+use Rattle.tagged.specs.Told.{FirstCircle, IsLevel}
 use Rattle.tagged.specs.Write.{passes, written, bookFrom}
 use Rattle.tagged.specs.Write as Write
 use Rattle.tagged.specs.Saved.{answered, judged, savedAs}
@@ -106,6 +107,10 @@ some-heading broader [] first = absurd (first .is)
 some-heading broader (x ∷ c) first = omega arith
 
 module _ (broader : Broader) (row : List ℕ) where
+  -- the row begins with the levels
+  level-at : (x : ℕ) → x < length broader → getD (Saved.over (levels broader) row) x 0 ≡ getD (levels broader) x 0
+  level-at x low = List·getD-append (levels broader) (drop (length (levels broader)) row) 0 x (omega (arith, levels-long broader))
+
   -- levels
   levels-answer : circle broader ≡ none → Answers broader row (answered broader none row)
   unfolding answered
@@ -113,9 +118,10 @@ module _ (broader : Broader) (row : List ℕ) where
     headings = refl;
     reported = (λ has. absurd (none-some (sym is ∙ told broader .reported .0 has .1)), λ some. absurd (omega arith));
     circleIs = λ some. absurd (omega arith);
-    levelsAre = λ _. (λ x low.
-        rw (List·getD-append (levels broader) (drop (length (levels broader)) row) x 0 (omega (arith, levels-long broader))) (told broader .levelsAre is x low),
-      rw (← levels-long broader) (drop-at (levels broader) (drop (length (levels broader)) row) _ refl));
+    levelsAre = λ _. (
+      λ x low. subst (IsLevel broader x) (sym (level-at x low)) (told broader .levelsAre is x low),
+      rw (← levels-long broader) (drop-at (levels broader) (drop (length (levels broader)) row) _ refl),
+    );
   }
     where
       none-some : {c : List ℕ} → none ≡ some c → ⊥
@@ -141,25 +147,26 @@ module _ (broader : Broader) (row : List ℕ) where
       by none is = rw is (levels-answer is)
       by (some c) is = rw is (circle-answer c is)
 
+-- it is no refusal
+answered-number : (broader : Broader) (row : List ℕ) (t : Option (List ℕ)) → answered broader t row .result .number ≡ 0
+unfolding answered
+answered-number broader row none = refl
+answered-number broader row (some c) = refl
+
 module _ (listing row : List ℕ) where
   refused-saves : (c line : ℕ) → (c ≡ 0 → ⊥) → Saves listing row (Saved.refusing c line row)
-  refused-saves c line some = record { answers = λ none. absurd (some none); untouched = λ _. refl }
+  refused-saves c line refuses = record { answers = λ zero-told. absurd (refuses zero-told); untouched = λ _. refl }
 
   judged-saves : (broader : Broader) (line : ℕ) → broaderIn listing ≡ got broader line → Saves listing row (judged broader row)
   unfolding judged
   judged-saves broader line says = by (passes broader) (ltb (length row) (length broader)) refl refl
     where
-      answered-number : (t : Option (List ℕ)) → answered broader t row .result .number ≡ 0
-      unfolding answered
-      answered-number none = refl
-      answered-number (some c) = refl
-
       by : (large less : Bool) → passes broader ≡ large → ltb (length row) (length broader) ≡ less → Saves listing row (judged broader row)
       by true less is other = rw (judged, is) (refused-saves 43 0 (λ none. omega arith))
       by false true is other = rw (judged, is, other) (refused-saves 44 0 (λ none. omega arith))
       by false false is other = rw (judged, is, other) (record {
-        answers = λ _. (broader, (line, (says, answers broader row)));
-        untouched = λ some. absurd (some (answered-number (circle broader)));
+        answers = λ _. (broader, line, says, answers broader row);
+        untouched = λ some. absurd (some (answered-number broader row (circle broader)));
       })
 
   saves : Saves listing row (savedAs listing row)
@@ -198,6 +205,11 @@ save-listing-keeps 𝓤 H 𝓜 𝓖 𝓡 =
     subst (Saves (now (a .0)) (now (a .1 .0))) (sym contract) (saves (now (a .0)) (now (a .1 .0)))))
     (𝓡 .run save-symbol.routine) (λ vs. fm→mono 𝓤 (𝓡 .run save-symbol.routine vs) (run-framed 𝓤 H 𝓜 𝓡 save-symbol.routine vs)) (saved-so.met 𝓤 H 𝓜 𝓖 𝓡)
 
+-- what a run tells, one with the same book and question does
+over-book : (P : ℕ → Type 0) (fuel : ℕ) (m : Memory) {o : Outcome} {book book′ question question′ : List ℕ} → o ≡ run book question fuel m → book ≡ book′
+    → question ≡ question′ → Told P (run book′ question′ fuel m) → Told P o
+over-book P fuel m is same asked tells = subst (Told P) (sym (is ∙ ap₂ (λ b q. run b q fuel m) same asked)) tells
+
 -- of a call of `run` whose book is one that was written of a listing: asked for the first operation of a heading it tells its BT headings, asked for the second
 -- those above it; all of them, if it is finished
 abbrev pub TellsOf : Claim running.ended
@@ -216,6 +228,8 @@ run-tells 𝓤 H 𝓜 𝓖 𝓡 =
     (λ κs a g z ws. fact-mono 𝓤 _ (TellsOf κs a z (atExit running.ended κs a ws)) (λ contract listing room done book x low.
     let n = length (promised listing room done .broader) in
     let night = nights listing room done in
-    let fuel = a .1 .1 .1 .1 .1 .0 in
-    (λ asked. rw (contract, book, asked) (night .first x low fuel (lentTo κs a)), λ asked. rw (contract, book, asked) (night .second x low fuel (lentTo κs a)))))
+    let fuel = a .1 .1 .1 .1 .1 .0 in (
+      λ asked. over-book (IsBroader (promised listing room done .broader) x) fuel (lentTo κs a) contract book asked (night .first x low fuel (lentTo κs a)),
+      λ asked. over-book (Above (promised listing room done .broader) x) fuel (lentTo κs a) contract book asked (night .second x low fuel (lentTo κs a)),
+    )))
     (𝓡 .run run-symbol.routine) (λ vs. fm→mono 𝓤 (𝓡 .run run-symbol.routine vs) (run-framed 𝓤 H 𝓜 𝓡 run-symbol.routine vs)) (run-so.met 𝓤 H 𝓜 𝓖 𝓡)

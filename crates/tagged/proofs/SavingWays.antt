@@ -2,12 +2,11 @@
 use mathlib.Core.Bool.{Bool, true, false}
 use mathlib.Core.Path.{_≡_, refl, sym, ap, subst, _∙_}
 use mathlib.Core.Option.{none, some}
-use mathlib.Core.List.{List, [], _∷_}
+use mathlib.Core.List.{List, _∷_}
 use Prim.Native.Nat.{ℕ, zero, suc, _≤_, _<_}
 use native.Mathlib.Omega.{arith}
 use borrow.Author.Tests.{lt-ltb, le-ltb}
-use lib.Dec.{ltb}
-use lib.ListN.{length, replicate, length-replicate, length-map}
+use lib.ListN.{length, length-replicate, length-map}
 use Rattle.reading.specs.Reading.{Reading, got, refusal}
 use Rattle.tagged.specs.Listing.{Broader, broaderIn}
 use Rattle.tagged.specs.Levels.{longest, chains, levels}
@@ -17,7 +16,7 @@ use Rattle.tagged.specs.TermRows.{HoldTerms, Fitting, TermsAs}
 use Rattle.tagged.specs.Saved.{Outcome, refusing, over, answered, judged, savedAs}
 use Rattle.tagged.specs.Saving.{held, PutLevels, SameRow, AnsweredAs, wayFrom}
 use Rattle.tagged.specs.declared.terms.Terms.{Terms}
-use Rattle.tagged.proofs.Refused.{Numbered, read, refused, numbered}
+use Rattle.tagged.proofs.Refused.{Numbered, refused, numbered}
 use Rattle.tagged.proofs.MarkWays.{way-start, way-length}
 
 -- ---- the levels or the circle
@@ -76,18 +75,18 @@ abbrev Sized : Terms → Broader → Bool → Type 0
 Sized t broader b = elim b [ true ↦ (t .number ≡ 43) × (t .line ≡ 0) | false ↦ Fitting t broader ]
 
 -- what is told of good rows
-pub record Told (t : Terms) (r : Reading Broader) : Type 0 where
+pub record Answerable (t : Terms) (r : Reading Broader) : Type 0 where
   pub broader : Broader
   pub fitting : Fitting t broader
   pub short : (row : List ℕ) → length row < length broader → savedBy r row ≡ refusing 44 0 row
   pub answer : (row : List ℕ) → length broader ≤ length row → savedBy r row ≡ answered broader (circle broader) row
 
 module _ (t : Terms) where
-  told-by : (r : Reading Broader) → Numbered r → TermsAs t r → t .number ≡ 0 → Told t r
+  told-by : (r : Reading Broader) → Numbered r → TermsAs t r → t .number ≡ 0 → Answerable t r
   told-by (refusal c line) (refused low high) (is, at-line) zero-is = absurd (omega (arith, low, is, zero-is))
   told-by (got broader n) num told zero-is = by (passes broader) refl told
     where
-      by : (b : Bool) → passes broader ≡ b → Sized t broader b → Told t (got broader n)
+      by : (b : Bool) → passes broader ≡ b → Sized t broader b → Answerable t (got broader n)
       by true is told = absurd (omega (arith, told .0, zero-is))
       by false is told = record {
         broader = broader;
@@ -110,7 +109,7 @@ module _ (t : Terms) where
     saved-refused some-number = refused-by (broaderIn listing) row told some-number ∙ sym (saved-by listing row)
 
     module _ (zero-is : t .number ≡ 0) where
-      abbrev good : Told t (broaderIn listing)
+      abbrev good : Answerable t (broaderIn listing)
       good = told-by (broaderIn listing) (numbered listing) told zero-is
 
       pub saved-short : length row < t .headings → refusing 44 0 row ≡ savedAs listing row

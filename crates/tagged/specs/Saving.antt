@@ -9,7 +9,7 @@ use lib.ListN.{length, getD}
 use Rattle.tagged.specs.Listing.{Broader}
 use Rattle.tagged.specs.Hops.{broaderOf, IsBroader}
 use Rattle.tagged.specs.Levels.{longest, levels}
-use Rattle.tagged.specs.Circle.{someMarked, returns, lowest, below, wayTo, circle}
+use Rattle.tagged.specs.Circle.{someMarked, returns, lowest, wayTo, circle}
 use Rattle.tagged.specs.TermRows.{broaderRows, mostHeadings, mostTerms, HoldTerms}
 use Rattle.tagged.specs.Saved.{Outcome, over, answered}
 use Rattle.tagged.specs.declared.circle.Saved.{Saved}

@@ -1,11 +1,11 @@
--- `sum_of_list` meets its contract: each place is one nearer to the end, and the checksum stays below 2^32.
-use Prim.Native.Nat.{_-_, _<_}
+-- `sum_of_list` meets its contract: each place is one nearer to the end.
+use Prim.Native.Nat.{_-_}
 use borrow.Author.Needs.{needs}
 use Rattle.edges.proofs.sum_of_list.Statement.{statement}
 use Rattle.edges.proofs.sum_of_list.Tie as tie
 
 abbrev Inv-loop : tie.InvT-loop
-Inv-loop list c₀ i₀ c i = c < 4294967296
+Inv-loop list c₀ i₀ c i = Unit {0}
 
 abbrev μ-loop : tie.MeasureT-loop
 μ-loop list c₀ i₀ c i = 100 - i
@@ -19,11 +19,11 @@ mul-e c = search needs
 array-copy-out-e : tie.Need-array-copy-out-e Inv-loop μ-loop
 array-copy-out-e c = search needs
 
-wide-number-requires : tie.Need-wide-number-requires Inv-loop μ-loop
-wide-number-requires c κs = search needs
+wide-requires : tie.Need-wide-requires Inv-loop μ-loop
+wide-requires c κs = search needs
 
-with-number-requires : tie.Need-with-number-requires Inv-loop μ-loop
-with-number-requires c κs = search needs
+mixed-requires : tie.Need-mixed-requires Inv-loop μ-loop
+mixed-requires c κs = search needs
 
 decisions-requires : tie.Need-decisions-requires Inv-loop μ-loop
 decisions-requires c κs = search needs
@@ -52,8 +52,8 @@ sum-of-list-spec =
     loop-holds
     mul-e
     array-copy-out-e
-    wide-number-requires
-    with-number-requires
+    wide-requires
+    mixed-requires
     decisions-requires
     with-decisions-requires
     add-i

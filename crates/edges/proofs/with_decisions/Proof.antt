@@ -1,12 +1,12 @@
--- `with_decisions` meets its contract: each decision is one nearer to the last, and the checksum stays below 2^32.
-use Prim.Native.Nat.{_-_, _<_}
+-- `with_decisions` meets its contract: each decision is one nearer to the last.
+use Prim.Native.Nat.{_-_}
 use borrow.Author.Needs.{needs}
 use Rattle.limits.specs.Sizes.{mostChoices}
 use Rattle.edges.proofs.with_decisions.Statement.{statement}
 use Rattle.edges.proofs.with_decisions.Tie as tie
 
 abbrev Inv-loop : tie.InvT-loop
-Inv-loop c d sum₀ i₀ sum i = sum < 4294967296
+Inv-loop c d sum₀ i₀ sum i = Unit {0}
 
 abbrev μ-loop : tie.MeasureT-loop
 μ-loop c d sum₀ i₀ sum i = mostChoices - i
@@ -23,8 +23,8 @@ side-requires c κs = search needs
 number-of-requires : tie.Need-number-of-requires Inv-loop μ-loop
 number-of-requires c κs = search needs
 
-with-number-requires : tie.Need-with-number-requires Inv-loop μ-loop
-with-number-requires c κs = search needs
+mixed-requires : tie.Need-mixed-requires Inv-loop μ-loop
+mixed-requires c κs = search needs
 
 add-i : tie.Need-add-i Inv-loop μ-loop
 add-i c = search needs
@@ -48,7 +48,7 @@ with-decisions-spec =
     cast-side
     side-requires
     number-of-requires
-    with-number-requires
+    mixed-requires
     add-i
     loop-less
     loop-again

@@ -1,11 +1,11 @@
--- `sum_of` meets its contract: each total is one nearer to the end, and the checksum stays below 2^32.
-use Prim.Native.Nat.{_-_, _<_}
+-- `sum_of` meets its contract: each total is one nearer to the end.
+use Prim.Native.Nat.{_-_}
 use borrow.Author.Needs.{needs}
 use Rattle.figured.proofs.sum_of.Statement.{statement}
 use Rattle.figured.proofs.sum_of.Tie as tie
 
 abbrev Inv-loop : tie.InvT-loop
-Inv-loop totals c₀ f₀ c f = c < 4294967296
+Inv-loop totals c₀ f₀ c f = Unit {0}
 
 abbrev μ-loop : tie.MeasureT-loop
 μ-loop totals c₀ f₀ c f = 1100 - f
@@ -13,14 +13,14 @@ abbrev μ-loop : tie.MeasureT-loop
 loop-holds : tie.Need-loop-holds Inv-loop μ-loop
 loop-holds c = search needs
 
-mul-with-total : tie.Need-mul-with-total Inv-loop μ-loop
-mul-with-total c = search needs
+mul-mixed : tie.Need-mul-mixed Inv-loop μ-loop
+mul-mixed c = search needs
 
-element-copy-out-with-total : tie.Need-element-copy-out-with-total Inv-loop μ-loop
-element-copy-out-with-total c = search needs
+element-copy-out-mixed : tie.Need-element-copy-out-mixed Inv-loop μ-loop
+element-copy-out-mixed c = search needs
 
-with-total-requires : tie.Need-with-total-requires Inv-loop μ-loop
-with-total-requires c κs = search needs
+mixed-requires : tie.Need-mixed-requires Inv-loop μ-loop
+mixed-requires c κs = search needs
 
 add-f : tie.Need-add-f Inv-loop μ-loop
 add-f c = search needs
@@ -41,9 +41,9 @@ sum-of-spec =
     Inv-loop
     μ-loop
     loop-holds
-    mul-with-total
-    element-copy-out-with-total
-    with-total-requires
+    mul-mixed
+    element-copy-out-mixed
+    mixed-requires
     add-f
     loop-less
     loop-again

@@ -16,7 +16,7 @@ use Rattle.converter.proofs.made.put_items.Tie as tie
 abbrev Inv-loop : tie.InvT-loop
 Inv-loop book ends p made₀ q old₀ new₀ made old new =
     let rest = items book ends old in
-    (p ≤ old) × (old ≤ 4 * mostBookBytes) × (new + 327680 * p ≤ q + 327680 * old) × (new + length rest ≡ q + length (items book ends p))
+    (p ≤ old) × (old ≤ 4 * mostBookBytes) × (new + 10 * mostBookBytes * p ≤ q + 10 * mostBookBytes * old) × (new + length rest ≡ q + length (items book ends p))
     × (new ≤ mostBookBytes → sets made new rest ≡ sets made₀ q (items book ends p))
 
 abbrev μ-loop : tie.MeasureT-loop

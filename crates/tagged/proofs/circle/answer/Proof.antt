@@ -1,10 +1,7 @@
 -- `answer` meets its contract: levels where they settle, else the circle that there is.
-use mathlib.Core.Path.{_≡_}
-use Prim.Native.Nat.{ℕ, _≤_, _<_}
 use native.Mathlib.Omega.{arith}
-use lib.ListN.{length}
 use borrow.Author.Needs.{needs}
-use Rattle.tagged.specs.Saving.{held, Holding}
+use Rattle.tagged.specs.Saving.{held}
 use Rattle.tagged.proofs.SavingRows.{held-length}
 use Rattle.tagged.proofs.SavingWays.{answered-levels, answered-circle}
 use Rattle.tagged.proofs.circle.answer.Statement.{statement}

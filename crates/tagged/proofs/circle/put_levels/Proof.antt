@@ -1,7 +1,7 @@
 -- `put_levels` meets its contract: the front of the row has the first levels.
 use mathlib.Core.Path.{_≡_, refl}
 use mathlib.Core.List.{List}
-use Prim.Native.Nat.{ℕ, _-_, _≤_, _<_}
+use Prim.Native.Nat.{ℕ, _-_, _≤_}
 use native.Mathlib.Omega.{arith}
 use lib.ListN.{length, drop, length-set}
 use borrow.Author.Needs.{needs}

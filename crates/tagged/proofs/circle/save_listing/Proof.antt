@@ -1,8 +1,4 @@
 -- `save_listing` meets its contract: what is told is what the definition says.
-use mathlib.Core.Path.{_≡_}
-use Prim.Native.Nat.{ℕ, _≤_, _<_}
-use native.Mathlib.Omega.{arith}
-use lib.ListN.{length}
 use borrow.Author.Needs.{needs}
 use Rattle.tagged.proofs.SavingWays.{saved-refused, saved-short, saved-hold, saved-answer}
 use Rattle.tagged.proofs.circle.save_listing.Statement.{statement}
