@@ -8,3 +8,4 @@ pub mod ExprBack
 pub mod BookBack
 pub mod Promised
 pub mod Over
+pub mod TooLarge

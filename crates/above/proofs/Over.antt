@@ -161,19 +161,19 @@ unfolding treesOf treesLaid rulesBefore someOver
 rules-over bs S e Fit.none some p xs inside stands = absurd (let z : _≡_ {A = ℕ} 0 1 = cc in omega arith)
 rules-over bs S e (Fit.more {r} {rs} fits able f) some p xs inside stands = elim (decLt mostExpressionNodes (nodesOf r)) [
   | yes over ↦
-        let own = lengthFirst (treeLaid (Tree.rule r)) in
-        let others = treesLaid (replicate (length rs) operation) (rulesBefore rs Trees.noTrees) in
-        let long = length-append own others in
-        ends _ (item-over bs S operation e p r (others ++ xs) fits (able (versionOf bs)) over (omega arith) (stands ∙ append-assoc own others xs))
+      let own = lengthFirst (treeLaid (Tree.rule r)) in
+      let others = treesLaid (replicate (length rs) operation) (rulesBefore rs Trees.noTrees) in
+      let long = length-append own others in
+      ends _ (item-over bs S operation e p r (others ++ xs) fits (able (versionOf bs)) over (omega arith) (stands ∙ append-assoc own others xs))
   | no few ↦
-        let own = lengthFirst (treeLaid (Tree.rule r)) in
-        let others = treesLaid (replicate (length rs) operation) (rulesBefore rs Trees.noTrees) in
-        let long = length-append own others in
-        let bytes : drop p bs ≡ own ++ (others ++ xs) = stands ∙ append-assoc own others xs in
-        let not-it : ltb mostExpressionNodes (nodesOf r) ≡ false = le-ltb mostExpressionNodes (nodesOf r) (omega arith) in
-        let later : someOver rs ≡ true = ap (λ t. t || someOver rs) (sym not-it) ∙ some in
-        on (goes-on _ (item-reads bs S operation e p r (others ++ xs) fits (able (versionOf bs)) (omega arith) (omega arith) bytes))
-        (ends _ (rules-over bs S e f later (p + length own) xs (omega arith) (behind bs p own (others ++ xs) bytes)))
+      let own = lengthFirst (treeLaid (Tree.rule r)) in
+      let others = treesLaid (replicate (length rs) operation) (rulesBefore rs Trees.noTrees) in
+      let long = length-append own others in
+      let bytes : drop p bs ≡ own ++ (others ++ xs) = stands ∙ append-assoc own others xs in
+      let not-it : ltb mostExpressionNodes (nodesOf r) ≡ false = le-ltb mostExpressionNodes (nodesOf r) (omega arith) in
+      let later : someOver rs ≡ true = ap (λ t. t || someOver rs) (sym not-it) ∙ some in
+      on (goes-on _ (item-reads bs S operation e p r (others ++ xs) fits (able (versionOf bs)) (omega arith) (omega arith) bytes))
+      (ends _ (rules-over bs S e f later (p + length own) xs (omega arith) (behind bs p own (others ++ xs) bytes)))
 ]
 
 -- also behind constructors
@@ -202,16 +202,16 @@ symbols-over bs Plain.none bound e before p xs enough few many ends-at stands = 
 symbols-over bs (Plain.more s) zero e before p xs enough few many ends-at stands = absurd (not-suc-le-zero enough)
 symbols-over bs (Plain.more {kind} {rest} s) (suc bound) e before p xs enough few many ends-at stands = elim (decLt before mostSymbols) [
   | yes room ↦
-        let own = symbolLaid (plain kind) in
-        let long : length (own ++ symbolsLaid rest) ≡ 3 + length (symbolsLaid rest) = length-append own (symbolsLaid rest) in
-        let bytes : drop p bs ≡ own ++ (symbolsLaid rest ++ xs) = stands ∙ append-assoc own (symbolsLaid rest) xs in
-        on (symbols-more bs bound e before p (omega (arith, long))
-        ∙ goes-on _ (symbol-reads bs kind e before p (symbolsLaid rest ++ xs) (omega (arith, long)) room bytes))
-        (ends _ (symbols-over bs s bound e (suc before) (p + 3) xs (omega arith) (omega arith) (omega arith) (omega (arith, long)) (behind bs p own (symbolsLaid rest ++ xs) bytes)))
+      let own = symbolLaid (plain kind) in
+      let long : length (own ++ symbolsLaid rest) ≡ 3 + length (symbolsLaid rest) = length-append own (symbolsLaid rest) in
+      let bytes : drop p bs ≡ own ++ (symbolsLaid rest ++ xs) = stands ∙ append-assoc own (symbolsLaid rest) xs in
+      on (symbols-more bs bound e before p (omega (arith, long))
+      ∙ goes-on _ (symbol-reads bs kind e before p (symbolsLaid rest ++ xs) (omega (arith, long)) room bytes))
+      (ends _ (symbols-over bs s bound e (suc before) (p + 3) xs (omega arith) (omega arith) (omega arith) (omega (arith, long)) (behind bs p own (symbolsLaid rest ++ xs) bytes)))
   | no none-left ↦
-        let own = symbolLaid (plain kind) in
-        let long : length (own ++ symbolsLaid rest) ≡ 3 + length (symbolsLaid rest) = length-append own (symbolsLaid rest) in
-        let bytes : drop p bs ≡ own ++ (symbolsLaid rest ++ xs) = stands ∙ append-assoc own (symbolsLaid rest) xs in
-        on (symbols-more bs bound e before p (omega (arith, long)))
-        (ends _ (3, p, symbol-over bs kind e before p (symbolsLaid rest ++ xs) (omega (arith, long)) (omega arith) bytes))
+      let own = symbolLaid (plain kind) in
+      let long : length (own ++ symbolsLaid rest) ≡ 3 + length (symbolsLaid rest) = length-append own (symbolsLaid rest) in
+      let bytes : drop p bs ≡ own ++ (symbolsLaid rest ++ xs) = stands ∙ append-assoc own (symbolsLaid rest) xs in
+      on (symbols-more bs bound e before p (omega (arith, long)))
+      (ends _ (3, p, symbol-over bs kind e before p (symbolsLaid rest ++ xs) (omega (arith, long)) (omega arith) bytes))
 ]

@@ -40,37 +40,37 @@ question-back broader inside f low =
 
 -- ---- the ways of the writer
 
-abbrev bytesOf : Broader → List ℕ
+abbrev pub bytesOf : Broader → List ℕ
 bytesOf broader = laid (rulesFor broader)
 
-abbrev tooLarge : Broader → List ℕ → Bool
+abbrev pub tooLarge : Broader → List ℕ → Bool
 tooLarge broader room = passes broader || ltb (length room) (length (bytesOf broader))
 
 module _ (broader : Broader) (room : List ℕ) where
   -- 43
-  over : tooLarge broader room ≡ true → written broader room ≡ refusing 43 0 room
+  pub over : tooLarge broader room ≡ true → written broader room ≡ refusing 43 0 room
   unfolding written
   over is = simp (written, is)
 
   -- written
-  fits : tooLarge broader room ≡ false → written broader room
+  pub fits : tooLarge broader room ≡ false → written broader room
       ≡ record { result = record { number = 0; line = 0; bytes = length (bytesOf broader) }; room = bytesOf broader ++ drop (length (bytesOf broader)) room }
   unfolding written
   fits is = simp (written, is)
 
 module _ (listing room : List ℕ) where
   -- 40 to 42
-  told-refusal : {c line : ℕ} → broaderIn listing ≡ refusal c line → bookFrom listing room ≡ refusing c line room
+  pub told-refusal : {c line : ℕ} → broaderIn listing ≡ refusal c line → bookFrom listing room ≡ refusing c line room
   unfolding bookFrom
   told-refusal is = simp (bookFrom, is)
 
   -- 43, or written
-  told : {broader : Broader} {line : ℕ} → broaderIn listing ≡ got broader line → bookFrom listing room ≡ written broader room
+  pub told : {broader : Broader} {line : ℕ} → broaderIn listing ≡ got broader line → bookFrom listing room ≡ written broader room
   unfolding bookFrom
   told is = simp (bookFrom, is)
 
 -- the number that is handed back
-abbrev number : Outcome → ℕ
+abbrev pub number : Outcome → ℕ
 number o = o .result .number
 
 -- ---- the promise
