@@ -23,7 +23,8 @@ use Rattle.tagged.specs.Laid.{symbolLaid, symbolsLaid, exprLaid, rowLaid, treeL
 use Rattle.tagged.specs.Write.{nodesOf, nodesOfRow, someOver}
 use Rattle.sorts.specs.Sorts.{ExprFits, RowFits}
 use Rattle.above.proofs.Standing.{goes-on, passes-test, one-at, behind, two-at, byte-reads, length-reads}
-use Rattle.above.proofs.ExprBack.{Readable, ReadableRow, length-applied, length-chosen, length-row, length-shared, after-symbol, coded, applied-reads, expr-reads}
+use Rattle.above.proofs.ExprBack.{Readable, ReadableRow, length-applied, length-chosen, length-row, length-shared}
+use Rattle.above.proofs.ExprBack.{after-symbol, coded, applied-reads, expr-reads}
 use Rattle.above.proofs.BookBack.{plain, Plain, symbol-reads, symbols-more, Fit, item-reads}
 
 -- ---- readings that are refused
@@ -53,7 +54,8 @@ module _ (bs : List ℕ) (base : ℕ) (S : Symbols) (e : ℕ) where
     | yes many ↦ ends more (itself many)
     | no few ↦
         let all : l ≡ nodesOf x + (l - nodesOf x) = omega arith in
-        on (goes-on more (ap (λ m. exprAt bs base S e depth vars sort m p) all ∙ expr-reads bs base S e x depth vars sort (l - nodesOf x) p xs fits able deep inside stands))
+        on (goes-on more (ap (λ m. exprAt bs base S e depth vars sort m p) all
+        ∙ expr-reads bs base S e x depth vars sort (l - nodesOf x) p xs fits able deep inside stands))
         (behind-it (omega arith))
   ]
 
@@ -75,7 +77,8 @@ module _ (bs : List ℕ) (base : ℕ) (S : Symbols) (e : ℕ) where
         let behind-it : drop (p + 3) bs ≡ row ++ xs = after-symbol bs base S e f p (row ++ xs) bytes in
         on (coded bs base S e depth vars sort (suc l) p 1 _ (omega (arith, long)) (omega (arith, long)) bytes
         ∙ goes-on _ (applied-reads bs base S e sort p f (row ++ xs) (omega (arith, long)) bytes (fits .0) (fits .1)))
-        (ends _ (row-over es (depth - 1) vars (symbolOf S f .arguments) l (p + 3) xs (fits .2) able (omega (arith, long)) (omega (arith, long)) behind-it (omega arith)))
+        (ends _ (row-over es (depth - 1) vars (symbolOf S f .arguments) l (p + 3) xs (fits .2) able
+        (omega (arith, long)) (omega (arith, long)) behind-it (omega arith)))
     expr-over (Expr.choice a b) depth vars sort zero p xs fits able deep inside stands over =
         let long = length-chosen a b in
         on (coded bs base S e depth vars sort 0 p 2 _ (omega (arith, long)) (omega (arith, long)) stands) (base + 4, p, refl)
@@ -88,8 +91,8 @@ module _ (bs : List ℕ) (base : ℕ) (S : Symbols) (e : ℕ) where
         on (coded bs base S e depth vars sort (suc l) p 2 _ (omega (arith, long)) (omega (arith, long)) bytes)
         (over-then a (depth - 1) vars sort l (p + 1) (two ++ xs) _ (fits .0) (able .0) (omega (arith, long)) (omega (arith, long)) next
         (λ many. expr-over a (depth - 1) vars sort l (p + 1) (two ++ xs) (fits .0) (able .0) (omega (arith, long)) (omega (arith, long)) next many)
-        (λ few. ends _ (expr-over b (depth - 1) vars sort (l - nodesOf a) (p + 1 + length one) xs (fits .1) (able .1) (omega (arith, long)) (omega (arith, long))
-        (behind bs (p + 1) one (two ++ xs) next) (omega arith))))
+        (λ few. ends _ (expr-over b (depth - 1) vars sort (l - nodesOf a) (p + 1 + length one) xs (fits .1) (able .1)
+        (omega (arith, long)) (omega (arith, long)) (behind bs (p + 1) one (two ++ xs) next) (omega arith))))
     expr-over Expr.fail depth vars sort zero p xs fits able deep inside stands over =
         on (coded bs base S e depth vars sort 0 p 3 xs (omega arith) (omega arith) stands) (base + 4, p, refl)
     expr-over Expr.fail depth vars sort (suc l) p xs fits able deep inside stands over = absurd (omega arith)
@@ -107,10 +110,11 @@ module _ (bs : List ℕ) (base : ℕ) (S : Symbols) (e : ℕ) where
         ∙ passes-test _ _ _ (le-ltb lastSort s low))
         (over-then a (depth - 1) vars s left (p + 2) (two ++ xs) _ (fits .0) able (omega (arith, long)) (omega (arith, long)) next
         (λ many. expr-over a (depth - 1) vars s left (p + 2) (two ++ xs) (fits .0) able (omega (arith, long)) (omega (arith, long)) next many)
-        (λ known. ends _ (expr-over b (depth - 1) (vars ++ (s ∷ [])) sort (left - nodesOf a) (p + 2 + length one) xs (fits .1) able′ (omega (arith, long)) (omega (arith, long))
-        (behind bs (p + 2) one (two ++ xs) next) (omega arith))))
+        (λ known. ends _ (expr-over b (depth - 1) (vars ++ (s ∷ [])) sort (left - nodesOf a) (p + 2 + length one) xs (fits .1) able′
+        (omega (arith, long)) (omega (arith, long)) (behind bs (p + 2) one (two ++ xs) next) (omega arith))))
 
-    row-over : (es : Exprs) (depth : ℕ) (vars : List ℕ) (sorts : List ℕ) (left p : ℕ) (xs : List ℕ) → RowFits S vars es sorts → ReadableRow (versionOf bs) vars es
+    row-over : (es : Exprs) (depth : ℕ) (vars : List ℕ) (sorts : List ℕ) (left p : ℕ) (xs : List ℕ)
+        → RowFits S vars es sorts → ReadableRow (versionOf bs) vars es
         → length (rowLaid es) ≤ depth → p + length (rowLaid es) ≤ e → drop p bs ≡ rowLaid es ++ xs → left < nodesOfRow es
         → Refuses (rowWith (exprAt bs base S e depth vars) sorts left p)
     row-over Exprs.noExprs depth vars sorts left p xs fits able deep inside stands over = absurd (not-suc-le-zero over)
@@ -136,7 +140,8 @@ module _ (bs : List ℕ) (base : ℕ) (S : Symbols) (e : ℕ) where
 
 module _ (bs : List ℕ) (S : Symbols) where
   -- a rule with too many nodes
-  rule-over : (sort e p : ℕ) (vars : List ℕ) (x : Expr) (xs : List ℕ) → ExprFits S vars x sort → Readable (versionOf bs) vars x → mostExpressionNodes < nodesOf x
+  rule-over : (sort e p : ℕ) (vars : List ℕ) (x : Expr) (xs : List ℕ)
+      → ExprFits S vars x sort → Readable (versionOf bs) vars x → mostExpressionNodes < nodesOf x
       → p + length (treeLaid (Tree.rule x)) ≤ e → drop p bs ≡ treeLaid (Tree.rule x) ++ xs → Refuses (treeIn bs S sort e (suc mostVariables) vars [] p)
   unfolding treeIn treeCodeAt treeLaid
   rule-over sort e p vars x xs fits able over inside stands =
@@ -144,13 +149,15 @@ module _ (bs : List ℕ) (S : Symbols) where
       (ends _ (whole-over bs 0 S e vars x sort (p + 1) xs fits able over (omega arith) (one-at bs p 1 (exprLaid x ++ xs) stands .1)))
 
   -- with its length in front
-  item-over : (x : Symbol) (e p : ℕ) (r : Expr) (xs : List ℕ) → ExprFits S (x .arguments) r (x .sort) → Readable (versionOf bs) (x .arguments) r → mostExpressionNodes < nodesOf r
+  item-over : (x : Symbol) (e p : ℕ) (r : Expr) (xs : List ℕ)
+      → ExprFits S (x .arguments) r (x .sort) → Readable (versionOf bs) (x .arguments) r → mostExpressionNodes < nodesOf r
       → p + length (lengthFirst (treeLaid (Tree.rule r))) ≤ e → drop p bs ≡ lengthFirst (treeLaid (Tree.rule r)) ++ xs → Refuses (itemAt bs S e x p)
   unfolding itemAt lengthFirst twoBytes
   item-over x e p r xs fits able over inside stands =
       let tree = treeLaid (Tree.rule r) in
       on (goes-on _ (length-reads bs 0 e p (length tree) (tree ++ xs) (omega arith) stands))
-      (ends _ (rule-over (x .sort) (p + 2 + length tree) (p + 2) (x .arguments) r xs fits able over (omega arith) (two-at bs p (length tree) (tree ++ xs) stands .1)))
+      (ends _ (rule-over (x .sort) (p + 2 + length tree) (p + 2) (x .arguments) r xs fits able over (omega arith)
+      (two-at bs p (length tree) (tree ++ xs) stands .1)))
 
 -- A ROW OF RULES OF WHICH SOME HAS TOO MANY NODES IS REFUSED
 pub rules-over : (bs : List ℕ) (S : Symbols) (e : ℕ) {rs : List Expr} → Fit S rs → someOver rs ≡ true → (p : ℕ) (xs : List ℕ)
@@ -177,7 +184,8 @@ rules-over bs S e (Fit.more {r} {rs} fits able f) some p xs inside stands = elim
 ]
 
 -- also behind constructors
-pub terms-over : (bs : List ℕ) (S : Symbols) (e n : ℕ) (rest : Symbols) (p : ℕ) → Refuses (treesOf bs S e rest p) → Refuses (treesOf bs S e (replicate n term ++ rest) p)
+pub terms-over : (bs : List ℕ) (S : Symbols) (e n : ℕ) (rest : Symbols) (p : ℕ)
+    → Refuses (treesOf bs S e rest p) → Refuses (treesOf bs S e (replicate n term ++ rest) p)
 unfolding treesOf
 terms-over bs S e zero rest p so = so
 terms-over bs S e (suc n) rest p so = ends _ (terms-over bs S e n rest p so)
@@ -207,7 +215,8 @@ symbols-over bs (Plain.more {kind} {rest} s) (suc bound) e before p xs enough fe
       let bytes : drop p bs ≡ own ++ (symbolsLaid rest ++ xs) = stands ∙ append-assoc own (symbolsLaid rest) xs in
       on (symbols-more bs bound e before p (omega (arith, long))
       ∙ goes-on _ (symbol-reads bs kind e before p (symbolsLaid rest ++ xs) (omega (arith, long)) room bytes))
-      (ends _ (symbols-over bs s bound e (suc before) (p + 3) xs (omega arith) (omega arith) (omega arith) (omega (arith, long)) (behind bs p own (symbolsLaid rest ++ xs) bytes)))
+      (ends _ (symbols-over bs s bound e (suc before) (p + 3) xs (omega arith) (omega arith) (omega arith) (omega (arith, long))
+      (behind bs p own (symbolsLaid rest ++ xs) bytes)))
   | no none-left ↦
       let own = symbolLaid (plain kind) in
       let long : length (own ++ symbolsLaid rest) ≡ 3 + length (symbolsLaid rest) = length-append own (symbolsLaid rest) in

@@ -26,7 +26,8 @@ use Rattle.tagged.proofs.Accepted.{accepted}
 use Rattle.tagged.proofs.Refused.{number-is, numbered}
 use Rattle.above.specs.TooLarge.{NoBook, TooLarge, Told43}
 use Rattle.above.proofs.Standing.{goes-on, two-at, length-reads}
-use Rattle.above.proofs.BookBack.{plain-symbols, symbols-stand, how-long, symbol-count, symbol-bytes, part-stands, as-many, own-bytes, all-fit, front, symbols-back, book-back}
+use Rattle.above.proofs.BookBack.{plain-symbols, symbols-stand, how-long, symbol-count, symbol-bytes, part-stands}
+use Rattle.above.proofs.BookBack.{as-many, own-bytes, all-fit, front, symbols-back, book-back}
 use Rattle.above.proofs.Over.{Refuses, on, ends, rules-over, terms-over, symbols-over}
 use Rattle.above.proofs.Promised.{bytesOf, tooLarge, over, fits, told-refusal, told, number}
 
@@ -127,7 +128,8 @@ module _ (listing room : List ℕ) where
       by (got broader line) is = (broader, line, is, fit broader line is (tooLarge broader room) refl)
 
   -- it is too large
-  large : (broader : Broader) (line : ℕ) → broaderIn listing ≡ got broader line → TooLarge broader room → (t : Bool) → passes broader ≡ t → tooLarge broader room ≡ true
+  large : (broader : Broader) (line : ℕ) → broaderIn listing ≡ got broader line → TooLarge broader room
+      → (t : Bool) → passes broader ≡ t → tooLarge broader room ≡ true
   large broader line is why true past = ap (λ t. t || ltb (length room) (length (bytesOf broader))) past
   large broader line is (inl short) false within =
       ap (λ t. t || ltb (length room) (length (bytesOf broader))) within ∙ lt-ltb (length room) (length (bytesOf broader)) short

@@ -17,7 +17,8 @@ use Rattle.above.specs.Reached.{Reached}
 abbrev pub asking : ℕ → List ℕ
 asking f = 1 ∷ 0 ∷ 4 ∷ 0 ∷ 1 ∷ twoBytes f
 
--- The listing is one, its book is within the sizes of document 01, the bytes written are an admitted book with its rules, any symbol can be asked for, and what is reached is what the listing says.
+-- The listing is one, its book is within the sizes of document 01, the bytes written are an admitted book with its rules, any
+-- symbol can be asked for, and what is reached is what the listing says.
 pub record Promised (listing : List ℕ) (o : Outcome) : Type 0 where
   pub broader : Broader
   pub line : ℕ
