@@ -79,7 +79,7 @@ reordered-finishes books others row order h =
       λ f some.
           let same = reordered-same f order in
           let there = fine .2 f (omega arith) in
-          (there .0, there .1, omega (arith, there .2)),
+          (there .0, omega (arith, there .1)),
     ))
 
 -- "WHERE NONE IS REFUSED the order of the books doesn't matter"

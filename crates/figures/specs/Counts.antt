@@ -11,7 +11,7 @@ use Rattle.reading.specs.Reading.{got, refusal}
 use Rattle.reading.specs.Bytes.{bigEndian, twoBytes}
 use Rattle.book.specs.TreeAt.{isIn}
 use Rattle.machine.specs.Answers.{Answer, answerBytes}
-use Rattle.figures.specs.AnswerBook.{recordAt}
+use Rattle.figures.specs.AnswerBook.{wholeAt}
 use Rattle.figures.specs.Figures.{bookEnd, figures}
 
 -- in how many of these answers, each given by its symbols, symbol f stands
@@ -30,7 +30,7 @@ module _ (bs : List ℕ) where
   answersAt zero version e p = []
   answersAt (suc bound) version e p = elim (ltb p e) [
     | false ↦ []
-    | true ↦ elim (recordAt bs version e p) [
+    | true ↦ elim (wholeAt bs version e p) [
       | refusal c q ↦ []
       | got answer end ↦ symbolsAt (answer .count) (answer .from) ∷ answersAt bound version e end
     ]
