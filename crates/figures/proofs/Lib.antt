@@ -9,3 +9,4 @@ pub mod Runs
 pub mod Taking
 pub mod TallyWays
 pub mod Repeated
+pub mod BookWays

@@ -24,7 +24,7 @@ fn add_symbols(
     end: usize,
     totals: &mut [u32],
 ) -> Reading
-    requires { ⌜ (from + 2 * count ≤ end) × (end ≤ length (now books)) × (count ≤ 65535) ⌝ }
+    requires { ⌜ (from + 2 * count ≤ end) × (end ≤ length (now books)) ⌝ }
     ensures { λ r. ⌜ AddedAs (symbolsAdded (now (books .entry)) (now (totals .entry)) count from p end) r (now (totals .entry)) (now (totals .exit)) ⌝ }
 {
     match tally(books, count, from, totals) {
@@ -45,32 +45,21 @@ fn add_symbols(
 }
 
 // A record at p of a book that ends at e.
-fn add_record(
-    books: &[u8],
-    version: usize,
-    e: usize,
-    p: usize,
-    totals: &mut [u32],
-) -> Reading
+fn add_record(books: &[u8], version: usize, e: usize, p: usize, totals: &mut [u32]) -> Reading
     requires { ⌜ (p < e) × (e ≤ length (now books)) × (0 < version) × (version ≤ 2) ⌝ }
     ensures { λ r. ⌜ AddedAs (answerAt (now (books .entry)) version e (now (totals .entry)) p) r (now (totals .entry)) (now (totals .exit)) ⌝ }
 {
     match read_record(books, version, e, p) {
         Reading::Refusal { number, place } => Reading::Refusal { number, place },
-        Reading::Got { value: count, next: end } => {
-            add_symbols(books, count, p + 2 * version + 2, p, end, totals)
-        }
+        Reading::Got {
+            value: count,
+            next: end,
+        } => { add_symbols(books, count, p + 2 * version + 2, p, end, totals) }
     }
 }
 
 // The records of a book from p to its end e.
-fn add_records(
-    books: &[u8],
-    version: usize,
-    e: usize,
-    from: usize,
-    totals: &mut [u32],
-) -> Reading
+fn add_records(books: &[u8], version: usize, e: usize, from: usize, totals: &mut [u32]) -> Reading
     requires { ⌜ (from ≤ e) × (e ≤ length (now books)) × (0 < version) × (version ≤ 2) ⌝ }
     ensures { λ r. ⌜ AddedAs (recordsAt (now (books .entry)) (length (now (books .entry))) version e (now (totals .entry)) from) r (now (totals .entry)) (now (totals .exit)) ⌝ }
 {

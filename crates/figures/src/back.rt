@@ -19,13 +19,7 @@ fn record_back(books: &[u8], version: usize, p: usize, totals: &mut [u32]) -> us
 }
 
 // The records from p to e.
-pub(crate) fn records_back(
-    books: &[u8],
-    version: usize,
-    e: usize,
-    from: usize,
-    totals: &mut [u32],
-)
+pub(crate) fn records_back(books: &[u8], version: usize, e: usize, from: usize, totals: &mut [u32])
     requires { ⌜ (e ≤ 10000000000000000000) × (version ≤ 255) ⌝ }
     ensures { λ _. ⌜ TakenBack (now (totals .entry)) (recordsOver (now (books .entry)) version e from) (now (totals .exit)) ⌝ }
 {

@@ -1,7 +1,7 @@
 // An answer's symbols, added to the totals.
 ghost use mathlib.Core.List.{[]};
 ghost use mathlib.Core.Path.{_≡_};
-ghost use Prim.Native.Nat.{_≤_};
+ghost use Prim.Native.Nat.{_+_, _*_, _≤_};
 ghost use Rattle.book.specs.TreeAt.{isIn};
 ghost use Rattle.figures.specs.Figures.{tallied};
 ghost use Rattle.figures.specs.Counts.{symbolsAt};
@@ -14,7 +14,7 @@ const MOST_TOTAL: u32 = 4294967295;
 
 // Whether symbol f is one of the k from p on.
 fn stands(books: &[u8], f: usize, k: usize, from: usize) -> bool
-    requires { ⌜ (from ≤ 11000000000000000000) × (k ≤ 65535) ⌝ }
+    requires { ⌜ from + 2 * k ≤ 12000000000000000000 ⌝ }
     ensures { λ r. ⌜ r ≡ isIn f (symbolsAt (now (books .entry)) k from) ⌝ }
 {
     let mut p = from;
@@ -43,7 +43,7 @@ fn one_less(f: usize, totals: &mut [u32])
 
 // Takes an answer's symbols, the first `count` from p on, off the totals again.
 pub(crate) fn take_back(books: &[u8], count: usize, from: usize, totals: &mut [u32])
-    requires { ⌜ (from ≤ 11000000000000000000) × (count ≤ 65535) ⌝ }
+    requires { ⌜ from + 2 * count ≤ 12000000000000000000 ⌝ }
     ensures { λ _. ⌜ TakenBack (now (totals .entry)) (answerOver (now (books .entry)) count from) (now (totals .exit)) ⌝ }
 {
     let mut p = from;
@@ -60,7 +60,7 @@ pub(crate) fn take_back(books: &[u8], count: usize, from: usize, totals: &mut [u
 
 // Adds an answer's symbols, `count` of them from p on, to the totals. A symbol counts once in an answer.
 pub(crate) fn tally(books: &[u8], count: usize, from: usize, totals: &mut [u32]) -> Reading
-    requires { ⌜ (from ≤ 11000000000000000000) × (count ≤ 65535) ⌝ }
+    requires { ⌜ from + 2 * count ≤ 12000000000000000000 ⌝ }
     ensures { λ r. ⌜ AddedAs (tallied (now (books .entry)) (now (totals .entry)) [] count from) r (now (totals .entry)) (now (totals .exit)) ⌝ }
 {
     let mut p = from;
