@@ -79,6 +79,15 @@ abbrev pub AnyOrder : Type 0
 AnyOrder = (books others : List (List ℕ)) (row : List ℕ) → Perm books others
     → figures (laid books) row .number ≡ 0 → figures (laid others) row ≡ figures (laid books) row
 
+-- and every buffer of bytes that is not refused is one of books that are laid: those found in it
+abbrev pub FoundAreLaid : Type 0
+FoundAreLaid = (bs row : List ℕ) → ((i : ℕ) → getD bs i 0 < 256) → figures bs row .number ≡ 0 → laid (booksIn bs) ≡ bs
+
+-- so of each such buffer the books may be laid in any order
+abbrev pub AnyOrderFound : Type 0
+AnyOrderFound = (bs row : List ℕ) (others : List (List ℕ)) → ((i : ℕ) → getD bs i 0 < 256) → Perm (booksIn bs) others
+    → figures bs row .number ≡ 0 → figures (laid others) row ≡ figures bs row
+
 -- an answer that a run can write: a value has one symbol at least, and there are no more than 256 choices to decide. How large its numbers are is not asked:
 -- `twoBytes` and `bigEndian` agree on any.
 pub record Writable (a : Answer) : Type 0 where
