@@ -96,4 +96,5 @@ pub record Writable (a : Answer) : Type 0 where
 
 -- what a run writes is read for its figures: the symbols of each answer, so that no record of it is refused
 abbrev pub ReadsRuns : Type 0
-ReadsRuns = (answers : List Answer) → ((a : Answer) → List·Mem a answers → Writable a) → answersOf (answerBytes answers) ≡ map (λ (a : Answer). a .symbols) answers
+ReadsRuns = (answers : List Answer) → ((a : Answer) → List·Mem a answers → Writable a)
+    → answersOf (answerBytes answers) ≡ map (λ (a : Answer). a .symbols) answers

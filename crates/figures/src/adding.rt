@@ -25,7 +25,8 @@ fn add_symbols(
     totals: &mut [u32],
 ) -> Reading
     requires { ⌜ (from + 2 * count ≤ end) × (end ≤ length (now books)) ⌝ }
-    ensures { λ r. ⌜ AddedAs (symbolsAdded (now (books .entry)) (now (totals .entry)) count from p end) r (now (totals .entry)) (now (totals .exit)) ⌝ }
+    ensures { λ r. ⌜ AddedAs (symbolsAdded (now (books .entry)) (now (totals .entry)) count from p end) r
+        (now (totals .entry)) (now (totals .exit)) ⌝ }
 {
     match tally(books, count, from, totals) {
         Reading::Refusal { number, place } => Reading::Refusal { number, place },
@@ -61,7 +62,8 @@ fn add_record(books: &[u8], version: usize, e: usize, p: usize, totals: &mut [u3
 // The records of a book from p to its end e.
 fn add_records(books: &[u8], version: usize, e: usize, from: usize, totals: &mut [u32]) -> Reading
     requires { ⌜ (from ≤ e) × (e ≤ length (now books)) × (0 < version) × (version ≤ 2) ⌝ }
-    ensures { λ r. ⌜ AddedAs (recordsAt (now (books .entry)) (length (now (books .entry))) version e (now (totals .entry)) from) r (now (totals .entry)) (now (totals .exit)) ⌝ }
+    ensures { λ r. ⌜ AddedAs (recordsAt (now (books .entry)) (length (now (books .entry))) version e (now (totals .entry)) from) r
+        (now (totals .entry)) (now (totals .exit)) ⌝ }
 {
     let mut p = from;
     while p < e {
@@ -106,7 +108,8 @@ fn add_book(books: &[u8], p: usize, totals: &mut [u32]) -> Reading
 
 // All books: the place behind the last.
 pub(crate) fn add_books(books: &[u8], totals: &mut [u32]) -> Reading
-    ensures { λ r. ⌜ AddedAs (booksAt (now (books .entry)) (length (now (books .entry))) (now (totals .entry)) 0) r (now (totals .entry)) (now (totals .exit)) ⌝ }
+    ensures { λ r. ⌜ AddedAs (booksAt (now (books .entry)) (length (now (books .entry))) (now (totals .entry)) 0) r
+        (now (totals .entry)) (now (totals .exit)) ⌝ }
 {
     let mut p: usize = 0;
     while p < books.len() {

@@ -1,4 +1,5 @@
-// Books that were added to the totals, taken off again: they are known to be whole, so only their lengths and counts are looked at.
+// Books that were added to the totals, taken off again: they are known to be whole, so only their lengths, versions and counts are looked at.
+// The bounds of `requires` keep places far from the last number; no caller comes near them.
 ghost use mathlib.Core.Path.{_≡_};
 ghost use Prim.Native.Nat.{_<_, _≤_};
 ghost use lib.ListN.{length};
@@ -11,7 +12,8 @@ use reading::number;
 // The record at p: the place behind it.
 fn record_back(books: &[u8], version: usize, p: usize, totals: &mut [u32]) -> usize
     requires { ⌜ (p ≤ 10000000000000000000) × (version ≤ 255) ⌝ }
-    ensures { λ r. ⌜ (r ≡ behindRecord (now (books .entry)) p) × TakenBack (now (totals .entry)) (recordOver (now (books .entry)) version p) (now (totals .exit)) ⌝ }
+    ensures { λ r. ⌜ (r ≡ behindRecord (now (books .entry)) p)
+        × TakenBack (now (totals .entry)) (recordOver (now (books .entry)) version p) (now (totals .exit)) ⌝ }
 {
     let at = p + 2 * version;
     take_back(books, number(books, at), at + 2, totals);
