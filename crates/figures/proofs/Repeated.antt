@@ -6,7 +6,6 @@ use Prim.Native.Nat.{ℕ, zero, suc, pred, _+_, _≤_, _<_}
 use native.Mathlib.Omega.{arith}
 use borrow.Author.Tests.{lt-ltb, le-ltb, ltb-true, ltb-false}
 use lib.Dec.{ltb}
-use lib.ListN.{length}
 use Rattle.reading.specs.Reading.{Reading, got, refusal, _then_}
 use Rattle.reading.specs.declared.Reading.the-variants.{Got, Refusal}
 use Rattle.reading.proofs.Good.{Good, good, good-got, each, then-good}

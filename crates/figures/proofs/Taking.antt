@@ -1,6 +1,6 @@
 -- What some symbols of an answer count, one more of them, and that what was added and taken back is as it was.
-use mathlib.Core.Bool.{Bool, true, false}
-use mathlib.Core.List.{List, [], _∷_, _++_}
+use mathlib.Core.Bool.{true, false}
+use mathlib.Core.List.{List, [], _∷_}
 use mathlib.Core.Path.{_≡_, refl, sym, ap, _∙_}
 use Prim.Native.Nat.{ℕ, zero, suc, _+_, _-_, _*_, _≤_, _<_}
 use native.Mathlib.Decide.{ℕ-discrete}
@@ -10,8 +10,8 @@ use lib.Seq.{getD-set-same, getD-set-other, set-getD, set-out, ext-getD}
 use Rattle.reading.specs.Bytes.{bigEndian}
 use Rattle.book.specs.TreeAt.{isIn}
 use Rattle.figures.specs.Counts.{howMany, symbolsAt}
-use Rattle.figures.specs.InCode.{Less, TakenBack, Lessened, answerOver}
-use Rattle.figures.proofs.Tallying.{Added, isIn-same, isIn-other}
+use Rattle.figures.specs.InCode.{TakenBack, Lessened, answerOver}
+use Rattle.figures.proofs.Tallying.{isIn-same, isIn-other}
 use Rattle.figures.proofs.Counting.{WithAnswers}
 
 -- ---- k symbols, and one more behind them

@@ -1,5 +1,4 @@
 // Answer books read front to back, and their symbols added to the totals. What is refused leaves the totals as they were.
-ghost use mathlib.Core.Path.{_≡_};
 ghost use Prim.Native.Nat.{_+_, _*_, _<_, _≤_};
 ghost use lib.ListN.{length};
 ghost use Rattle.figures.specs.Figures.{symbolsAdded, answerAt, recordsAt, bookAt, booksAt};

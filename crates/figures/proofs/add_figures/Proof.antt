@@ -1,5 +1,4 @@
 -- `add_figures` meets its contract: number 0 where no book was refused.
-use mathlib.Core.Path.{_≡_}
 use borrow.Author.Needs.{needs}
 use Rattle.figures.proofs.BookWays.{books-refused, books-added}
 use Rattle.figures.proofs.add_figures.Statement.{statement}

@@ -1,5 +1,4 @@
 -- `add_book` meets its contract: the tests in the order of the definition, then its records.
-use mathlib.Core.List.{List}
 use mathlib.Core.Path.{_≡_, refl, ap₂, _∙_}
 use Prim.Native.Nat.{ℕ, _+_, _*_}
 use native.Mathlib.Omega.{arith}

@@ -1,14 +1,6 @@
 -- `add_symbols` meets its contract: the symbols, then the decisions, for which the symbols are taken back if they do not rise.
-use mathlib.Core.Path.{_≡_, sym, subst, _∙_}
-use mathlib.Core.List.{List, []}
-use Prim.Native.Nat.{ℕ}
-use native.Mathlib.Omega.{arith}
+use mathlib.Core.Path.{sym, _∙_}
 use borrow.Author.Needs.{needs}
-use borrow.Author.Tests.{not-true, not-false}
-use lib.ListN.{length}
-use Rattle.reading.specs.declared.Reading.{Reading as Answered}
-use Rattle.figures.specs.Figures.{tallied}
-use Rattle.figures.specs.InCode.{AddedAs}
 use Rattle.figures.proofs.BookWays.{symbols-refused, decisions-rise, decisions-fall}
 use Rattle.figures.proofs.adding.add_symbols.Statement.{statement}
 use Rattle.figures.proofs.adding.add_symbols.Tie as tie

@@ -1,9 +1,7 @@
 -- `book_back` meets its contract: its records are taken off.
-use mathlib.Core.Path.{_≡_, ap₂, _∙_}
+use mathlib.Core.Path.{ap₂}
 use Prim.Native.Nat.{ℕ, _+_, _*_}
-use native.Mathlib.Omega.{arith}
 use borrow.Author.Needs.{needs}
-use Rattle.figures.specs.Figures.{bookEnd}
 use Rattle.figures.proofs.back.book_back.Statement.{statement}
 use Rattle.figures.proofs.back.book_back.Tie as tie
 

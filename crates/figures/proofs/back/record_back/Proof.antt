@@ -1,9 +1,6 @@
 -- `record_back` meets its contract: the symbols that the record counts are taken off.
-use mathlib.Core.Path.{_≡_, ap, _∙_}
-use Prim.Native.Nat.{ℕ, _+_, _*_}
 use native.Mathlib.Omega.{arith}
 use borrow.Author.Needs.{needs}
-use Rattle.figures.specs.InCode.{answerOver}
 use Rattle.figures.proofs.back.record_back.Statement.{statement}
 use Rattle.figures.proofs.back.record_back.Tie as tie
 

@@ -1,6 +1,5 @@
 -- `records_back` meets its contract: at p the records before it are taken off.
-use mathlib.Core.Path.{_≡_, _∙_}
-use Prim.Native.Nat.{ℕ, _-_, _<_}
+use Prim.Native.Nat.{_-_}
 use native.Mathlib.Omega.{arith}
 use borrow.Author.Needs.{needs}
 use Rattle.figures.specs.InCode.{behindRecord, recordOver}

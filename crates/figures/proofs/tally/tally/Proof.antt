@@ -1,14 +1,13 @@
 -- `tally` meets its contract: after i turns the other symbols are left; a refusal takes back what was added.
-use mathlib.Core.List.{List, []}
+use mathlib.Core.List.{[]}
 use mathlib.Core.Logic.{⊎-elim}
-use mathlib.Core.Path.{_≡_, refl, sym, ap, _∙_}
-use Prim.Native.Nat.{ℕ, _+_, _-_, _*_, _≤_}
+use mathlib.Core.Path.{refl, sym, _∙_}
+use Prim.Native.Nat.{_+_, _-_, _≤_}
 use native.Mathlib.Nat.{sub-zero}
 use native.Mathlib.Numerals.{add-one}
 use native.Mathlib.Omega.{arith}
 use borrow.Author.Needs.{needs}
 use borrow.Author.Tests.{not-true, not-false}
-use lib.ListN.{length}
 use Rattle.figures.specs.Figures.{tallied}
 use Rattle.figures.proofs.TallyWays.{Left, all-left, none-left, seen-before, past-row, past-bits, counts}
 use Rattle.figures.proofs.tally.tally.Statement.{statement}
