@@ -30,15 +30,6 @@ unfolding howMany
 count-like f some more same = simp (howMany, same)
 
 module _ (bs : List ℕ) where
-  -- the first one is f, or f is looked for behind it
-  pub here : {f : ℕ} (k left p : ℕ) → k ≡ suc left → bigEndian bs p ≡ f → isIn f (symbolsAt bs k p) ≡ true
-  unfolding symbolsAt
-  here {f} k left p more same = rw more (isIn-same (symbolsAt bs left (p + 2)) (sym same))
-
-  pub further : {f : ℕ} (k left p : ℕ) → k ≡ suc left → (bigEndian bs p ≡ f → ⊥) → isIn f (symbolsAt bs k p) ≡ isIn f (symbolsAt bs left (p + 2))
-  unfolding symbolsAt
-  further {f} k left p more other = rw more (isIn-other (symbolsAt bs left (p + 2)) (λ same. other (sym same)))
-
   -- the last one is f, or f stands before it
   last-same : {f : ℕ} (k p : ℕ) → f ≡ bigEndian bs (p + 2 * k) → isIn f (symbolsAt bs (suc k) p) ≡ true
   unfolding symbolsAt
@@ -66,6 +57,14 @@ module _ (bs : List ℕ) where
           → isIn f (symbolsAt bs (suc (suc k)) p) ≡ isIn f (symbolsAt bs (suc k) p)
       by (yes first) behind = isIn-same (symbolsAt bs (suc k) (p + 2)) first ∙ sym (isIn-same (symbolsAt bs k (p + 2)) first)
       by (no other) behind = isIn-other (symbolsAt bs (suc k) (p + 2)) other ∙ behind ∙ sym (isIn-other (symbolsAt bs k (p + 2)) other)
+
+  -- so it is looked for from the last one on
+  module _ {f : ℕ} (k left from : ℕ) (more : k ≡ suc left) where
+    pub found-last : bigEndian bs (from + 2 * left) ≡ f → isIn f (symbolsAt bs k from) ≡ true
+    found-last same = rw more (last-same left from (sym same))
+
+    pub found-before : (bigEndian bs (from + 2 * left) ≡ f → ⊥) → isIn f (symbolsAt bs k from) ≡ isIn f (symbolsAt bs left from)
+    found-before other = rw more (last-other left from (λ same. other (sym same)))
 
   -- one more, g, behind i of them
   module _ (i i′ from p g : ℕ) (more : i′ ≡ suc i) (place : p ≡ from + 2 * i) (is : g ≡ bigEndian bs p) where
