@@ -55,26 +55,24 @@ def figures(b, row):
                 raise Refused(60, p)
             rest, at = b[p + 2:p + 2 + word(b, p)], p + 2
             if version == 2:
-                if len(rest) < 2 or word(rest, 0) >= 32:
+                if len(rest) < 2:
                     raise Refused(60, p)
                 rest, at = rest[2:], at + 2
             if len(rest) < 2 or len(rest) % 2 or word(rest, 0) == 0 or len(rest) < 2 + 2 * word(rest, 0):
                 raise Refused(60, p)
             numbers = [word(rest, k) for k in range(2, len(rest), 2)]
             symbols, decisions = numbers[:word(rest, 0)], [d // 2 for d in numbers[word(rest, 0):]]
-            if any(c >= 256 for c in decisions) or any(a >= b for a, b in zip(decisions, decisions[1:])):
-                raise Refused(60, p)
             for k, f in enumerate(symbols):
                 here = at + 2 + 2 * k
                 if f in symbols[:k]:
                     continue
-                if f >= 1024:
-                    raise Refused(60, here)
                 if f >= len(row):
                     raise Refused(61, here)
                 if row[f] == 2 ** 32 - 1:
                     raise Refused(62, here)
                 row[f] += 1
+            if any(c >= 256 for c in decisions) or any(a >= b for a, b in zip(decisions, decisions[1:])):
+                raise Refused(60, p)
             p += 2 + word(b, p)
     return row
 
@@ -101,7 +99,7 @@ case('a symbol twice in one answer counts once', (0, 0), book(answer([PAIR, TRUE
 case('the same symbol in two answers counts twice', (0, 0), book(answer([PAIR, TRUE, FALSE]), answer([TRUE])), totals_after=(1, 2, 1, 0, 0))
 case('version 2, with the questions\' numbers', (0, 0), book(answer([TRUE], [0, 3], question=0), answer([FALSE], [], question=31), version=2), totals_after=(1, 1, 0, 0, 0))
 case('both versions, one behind the other', (0, 0), d + book(answer([TRUE], question=5), version=2) + d, totals_after=(4, 1, 0, 0, 0))
-case('version 2, question 32', (60, 5), book(answer([TRUE], question=32), version=2))
+case('version 2, question 65,535: any number', (0, 0), book(answer([TRUE], question=65535), answer([TRUE], question=32), version=2), totals_after=(0, 2, 0, 0, 0))
 case('version 0', (60, 4), book(version=0))
 case('version 3', (60, 4), book(answer([TRUE]), version=3))
 case('version 3 in the second book', (60, len(d) + 4), d + book(version=3))
@@ -128,8 +126,12 @@ case('a symbol past the row', (61, 9), book(answer([5])))
 case('a symbol past the row, the second', (61, 11), book(answer([4, 5])))
 case('a row of no totals', (61, 9), book(answer([0])), lent=0)
 case('symbol 1,023', (0, 0), book(answer([1023])), lent=1100, totals_after=(0, 0, 0, 0, 0))
-case('symbol 1,024, though the row is longer', (60, 9), book(answer([1024])), lent=1100)
-case('symbol 1,024 and a short row', (60, 9), book(answer([1024])))
+case('symbol 1,024, for which the row has a total', (0, 0), book(answer([1024])), lent=1100, totals_after=(0, 0, 0, 0, 0))
+case('symbols 1,024 to 1,099', (0, 0), book(answer(range(1024, 1100))), lent=1100, totals_after=(0, 0, 0, 0, 0))
+case('symbol 1,100 is past the row', (61, 11), book(answer([1099, 1100])), lent=1100)
+case('symbol 1,024 and a row of 1,024', (61, 9), book(answer([1024])), lent=1024)
+case('symbol 1,024 and a short row', (61, 9), book(answer([1024])))
+case('symbol 65,535', (61, 13), book(answer([1, 1023, 65535])), lent=1100)
 top32 = 2 ** 32 - 1
 case('a total up to 32 bits', (0, 0), book(answer([TRUE])), given=(0, top32 - 1, 0, 0, 0), totals_after=(0, top32, 0, 0, 0))
 case('a total past 32 bits', (62, 9), book(answer([TRUE])), given=(0, top32, 0, 0, 0))
@@ -139,7 +141,21 @@ case('twice in one answer, a total at its last', (0, 0), book(answer([TRUE, TRUE
 case('61 before a later 60', (61, 9), book(answer([5])) + b'\0')
 case('60 before a later 61', (60, 5), book(two(0)) + book(answer([5])))
 case('62 before a later 61', (62, 9), book(answer([TRUE, 5])), given=(0, top32, 0, 0, 0))
-case('the record is judged before its symbols', (60, 5), book(answer([5], [2, 1])))
+case('61 before a fault of the decisions', (61, 9), book(answer([5], [2, 1])))
+case('61 at the second symbol, before decision 512', (61, 11), book(answer([4, 5], [512])))
+case('62 before a fault of the decisions', (62, 9), book(answer([TRUE], [512])), given=(0, top32, 0, 0, 0))
+case('62 at a first standing, before a fault of the decisions', (62, 13), book(answer([PAIR, PAIR, TRUE], [3, 2])), given=(0, top32, 0, 0, 0))
+case('an odd byte before 61', (60, 5), book(two(5) + two(1) + two(5) + b'\0'))
+case('a symbol missing before 61', (60, 5), book(two(4) + two(2) + two(5)))
+case('62 before 61, in symbol order', (62, 11), book(answer([PAIR, TRUE, 5])), given=(0, top32, 0, 0, 0))
+case('61 before 62, in symbol order', (61, 11), book(answer([PAIR, 5, TRUE])), given=(0, top32, 0, 0, 0))
+# ---- what was added before a refusal is taken back
+case('a fault of the decisions behind a good answer', (60, 13), book(answer([PAIR, TRUE]), answer([TRUE, FALSE, TRUE], [1, 1])), given=(1, 2, 3, 4, 5))
+case('61 behind good answers and a good book', (61, len(d) + 19), d + book(answer([TRUE, TRUE]), answer([FALSE, 5])), given=(1, 2, 3, 4, 5))
+case('62 behind good books of both versions', (62, len(d) + 22), d + book(answer([PAIR], question=9), version=2) + book(answer([PAIR])), given=(1, 2, top32 - 1, 4, 5))
+case('a book cut short behind good ones', (60, 2 * len(d)), d * 2 + d[:-1], given=(top32 - 4, 2, 3, 4, 5))
+case('a book of no bytes behind good ones', (60, 2 * len(d)), d * 2 + bytes(4) + d, given=(1, 2, 3, 4, 5))
+case('version 3 behind symbols 1,024 to 1,099', (60, 5 + 156 + 4), book(answer(range(1024, 1100))) + book(version=3), lent=1100)
 
 # ---- books in two orders; where one of them is refused, both are, at other places
 one, other = book(answer([PAIR, TRUE, FALSE])), book(answer([TRUE]), answer([4], [7]))
@@ -166,7 +182,7 @@ def by_chance():
     for _ in range(chance.randrange(4)):
         symbols = [chance.randrange(6) if chance.random() < 0.2 else chance.randrange(5) for _ in range(chance.randrange(1, 5))]
         decisions = [2 * c + chance.randrange(2) for c in sorted(chance.sample(range(256), chance.randrange(4)))]
-        answers.append(answer(symbols, decisions, chance.randrange(32) if version == 2 else None))
+        answers.append(answer(symbols, decisions, chance.choice([0, 1, 31, 32, 65535]) if version == 2 else None))
     return book(*answers, version=version)
 
 

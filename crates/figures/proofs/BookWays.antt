@@ -1,83 +1,122 @@
--- Records and books, one behind another: each is added to the totals, one lemma for each way through the code.
-use mathlib.Core.Bool.{true, false}
-use mathlib.Core.List.{List, []}
+-- Records and books, one behind another: each is added to the totals, one lemma for each way through the code, and what they count.
+use mathlib.Core.Bool.{true, false, not}
+use mathlib.Core.List.{List, [], _∷_}
 use mathlib.Core.Path.{_≡_, refl, sym, ap, ap₂, _∙_}
-use Prim.Native.Nat.{ℕ, zero, suc, _+_, _*_, _≤_, _<_}
+use Prim.Native.Nat.{ℕ, zero, suc, _+_, _-_, _*_, _/_, _≤_, _<_}
 use native.Mathlib.Omega.{arith}
-use borrow.Author.Tests.{lt-ltb, le-ltb, eq-eqb, ne-eqb}
+use borrow.Author.Tests.{lt-ltb, le-ltb, ltb-false, eq-eqb, ne-eqb, eqb-false}
 use lib.Dec.{ltb, eqb}
 use lib.ListN.{length, getD}
-use Rattle.limits.specs.Sizes.{mostSymbols}
 use Rattle.reading.specs.Reading.{Reading, got, refusal, _then_, refuse_at_if_else_}
 use Rattle.reading.specs.Bytes.{bigEndian}
 use Rattle.reading.specs.Answer.{keeping}
 use Rattle.reading.specs.declared.Reading.{Reading as Answered}
 use Rattle.reading.specs.declared.Reading.the-variants.{Got, Refusal}
-use Rattle.reading.proofs.Good.{good, good-got, then-good, unless}
+use Rattle.reading.proofs.Good.{Good, good, good-got, each, then-good, unless}
 use Rattle.reading.proofs.Keeping.{kept-got, kept-refusal, then-got, then-refusal, passed, failed-test}
-use Rattle.figures.specs.AnswerBook.{recordAt}
-use Rattle.figures.specs.Figures.{tallied, recordsAt, bookAt, booksAt, endedAs, figures}
-use Rattle.figures.specs.InCode.{countOf, AddedAs, Adds, EndsFrom, laidIn, after}
-use Rattle.figures.proofs.Held.{held-length, laid-over}
+use Rattle.figures.specs.AnswerBook.{rising, recordAt}
+use Rattle.figures.specs.Figures.{tallied, symbolsAdded, answerAt, recordsAt, bookEnd, bookAt, booksAt, endedAs, figures}
+use Rattle.figures.specs.Counts.{howMany}
+use Rattle.figures.specs.InCode.{countOf, AddedAs, TakenBack, answerOver, recordOver, behindRecord, recordsOver, bookOver, after}
+use Rattle.figures.proofs.Exactly.{whatever}
+use Rattle.figures.proofs.Tallying.{Added, adds, once, tallied-added}
+use Rattle.figures.proofs.Counting.{WithAnswers}
 use Rattle.figures.proofs.RecordWays.{Extent, record-extent}
-use Rattle.figures.proofs.TallyWays.{Staying, tallied-stays, adds-refused, adds-got}
-use Rattle.figures.proofs.Repeated.{repeated, repeated-stays, then-cong, then-then, added-refusal, added-got}
+use Rattle.figures.proofs.Taking.{there-and-back}
+use Rattle.figures.proofs.TallyWays.{adds-refused, adds-got, added-refusal, added-got}
+use Rattle.figures.proofs.Repeated.{repeated, then-cong, EachCounts, all-count}
+
+-- what is refused with 60
+pub refused-as : {t : Reading (List ℕ)} (row row′ : List ℕ) (r : Answered) {p : ℕ} → r ≡ Refusal 60 p → t ≡ refusal 60 p → row′ ≡ row → AddedAs t r row row′
+refused-as row row′ r answer told same = rw answer (adds-refused row told same)
+
+-- ---- the symbols of a record, and its decisions
+
+-- one answer
+as-answer : {row row′ : List ℕ} (symbols : List ℕ) → Added row (adds [] symbols) row′ → WithAnswers row (symbols ∷ []) row′
+unfolding howMany
+as-answer symbols added = record { long = added .long; total = λ f h. omega (arith, added .total f h, once symbols [] .at f) }
+
+module _ (bs row : List ℕ) (count from : ℕ) where
+  tallied-counts : Good (λ row′ q. WithAnswers row (answerOver bs count from) row′ × (q ≡ from + 2 * count)) (tallied bs row [] count from)
+  tallied-counts = each (λ row′ q (added, end). (as-answer _ added, end)) (whatever (tallied-added bs row [] count from))
+
+  module _ (p end : ℕ) where
+    -- they are refused
+    pub symbols-refused : {row′ : List ℕ} {c q : ℕ} → AddedAs (tallied bs row [] count from) (Refusal c q) row row′ → AddedAs (symbolsAdded bs row count from p end) (Refusal c q) row row′
+    unfolding symbolsAdded
+    symbols-refused told =
+        let is = added-refusal row told in
+        adds-refused row (then-refusal _ (is .0)) (is .1)
+
+    -- they are added; then its decisions rise, or they do not, and the symbols are taken back
+    module _ {row′ : List ℕ} {v q : ℕ} (told : AddedAs (tallied bs row [] count from) (Got v q) row row′) where
+      to-decisions : symbolsAdded bs row count from p end
+          ≡ refuse_at_if_else_ 60 p (not (rising bs ((end - (from + 2 * count)) / 2) 0 (from + 2 * count))) (λ _. got row′ end)
+      unfolding symbolsAdded
+      to-decisions =
+          let is = added-got row told in
+          let stop = good-got tallied-counts is .1 in
+          then-got _ is ∙ ap (λ (n : ℕ). refuse_at_if_else_ 60 p (not (rising bs ((end - n) / 2) 0 n)) (λ _. got row′ end)) stop
+
+      pub decisions-rise : rising bs ((end - (from + 2 * count)) / 2) 0 (from + 2 * count) ≡ true → AddedAs (symbolsAdded bs row count from p end) (Got 0 end) row row′
+      decisions-rise h = adds-got row (to-decisions ∙ passed 60 p (ap not h))
+
+      pub decisions-fall : rising bs ((end - (from + 2 * count)) / 2) 0 (from + 2 * count) ≡ false → (row″ : List ℕ) → TakenBack row′ (answerOver bs count from) row″
+          → (r : Answered) → r ≡ Refusal 60 p → AddedAs (symbolsAdded bs row count from p end) r row row″
+      decisions-fall h row″ back r answer =
+          let added = good-got tallied-counts (added-got row told) .0 in
+          refused-as row row″ r answer (to-decisions ∙ failed-test 60 p _ (ap not h)) (there-and-back (answerOver bs count from) row row′ row″ added back)
+
+-- ---- a record
 
 module _ (bs : List ℕ) (version e : ℕ) where
-  -- one record: its symbols are added to the row, and the place behind it
-  abbrev pub oneRecord : List ℕ → ℕ → Reading (List ℕ)
-  oneRecord row p =
-      _then_ (recordAt bs version e p) λ answer end.
-      _then_ (tallied bs row [] (answer .count) (answer .from)) λ row′ _.
-      got row′ end
+  module _ (row : List ℕ) (p : ℕ) where
+    -- it is refused,
+    pub record-refused : {c q : ℕ} → refusal c q ≡ keeping countOf (recordAt bs version e p) → AddedAs (answerAt bs version e row p) (Refusal c q) row row
+    unfolding answerAt
+    record-refused told = adds-refused row (then-refusal _ (kept-refusal countOf (recordAt bs version e p) told)) refl
 
-  pub record-stays : (row : List ℕ) (p : ℕ) → Staying row (oneRecord row p)
-  record-stays row p =
-      then-good (record-extent bs version e p) λ answer end _. then-good (tallied-stays bs row [] (answer .count) (answer .from)) λ row′ q is. good is
+    -- or read up to its symbols
+    module _ {count end : ℕ} (told : got count end ≡ keeping countOf (recordAt bs version e p)) where
+      extent : (a : _) × (recordAt bs version e p ≡ got a end) × (count ≡ a .count) × Extent bs version e p a end
+      extent =
+          let kept = kept-got countOf (recordAt bs version e p) told in
+          (kept .0, kept .1, kept .2, good-got (record-extent bs version e p) (kept .1))
 
-  -- so the records of a book are read
-  pub records-repeated : (bound : ℕ) (row : List ℕ) (p : ℕ) → recordsAt bs bound version e row p ≡ repeated e oneRecord bound row p
-  unfolding recordsAt repeated _then_
+      pub symbols-within : (p + 2 * version + 2 + 2 * count ≤ end) × (end ≤ e)
+      symbols-within =
+          let is = extent .3 in
+          (omega (arith, is .room, is .stand, extent .2), is .within)
+
+      pub by-symbols : answerAt bs version e row p ≡ symbolsAdded bs row count (p + 2 * version + 2) p end
+      unfolding answerAt
+      by-symbols = then-got _ (extent .1) ∙ ap₂ (λ (n from : ℕ). symbolsAdded bs row n from p end) (sym (extent .2)) (extent .3 .stand)
+
+  -- what it counts
+  pub answer-counts : EachCounts (behindRecord bs) (recordOver bs version) e (answerAt bs version e)
+  unfolding answerAt symbolsAdded
+  answer-counts row p here =
+      then-good (record-extent bs version e p) λ answer end is.
+      then-good (tallied-counts bs row (answer .count) (answer .from)) λ row′ q (added, stop).
+      unless _ _ _ λ _ _.
+      good (record { added = rw (is .count, is .stand) at added; end = is .behind; onward = omega (arith, is .onward); within = is .within })
+
+  -- so the records of a book are read, and counted
+  pub records-repeated : (bound : ℕ) (row : List ℕ) (p : ℕ)
+      → recordsAt bs bound version e row p ≡ repeated (behindRecord bs) (recordOver bs version) e (answerAt bs version e) bound row p
+  unfolding recordsAt repeated
   records-repeated zero row p = refl
   records-repeated (suc bound) row p =
-      ap (λ (t : Reading (List ℕ)). elim (ltb p e) [ false ↦ got row p | true ↦ t ])
-      (then-cong (recordAt bs version e p) (λ answer end.
-      then-cong (tallied bs row [] (answer .count) (answer .from)) (λ row′ _. records-repeated bound row′ end)
-      ∙ sym (then-then (tallied bs row [] (answer .count) (answer .from)) (λ row′ _. got row′ end) (repeated e oneRecord bound)))
-      ∙ sym (then-then (recordAt bs version e p) _ (repeated e oneRecord bound)))
+      ap (λ (t : Reading (List ℕ)). elim (ltb p e) [ false ↦ got row p | true ↦ t ]) (then-cong (answerAt bs version e row p) (records-repeated bound))
 
-  module _ (p : ℕ) where
-    -- a record that is refused,
-    pub record-refused : {many : ℕ} {held : List ℕ} {c q : ℕ} → refusal c q ≡ keeping countOf (recordAt bs version e p) → Adds many (λ (row : List ℕ). oneRecord row p) held (Refusal c q) held
-    record-refused {held} told row long holds = adds-refused held (then-refusal _ (kept-refusal countOf (recordAt bs version e p) told))
+  records-count : (row : List ℕ) (p : ℕ) → p ≤ e → e ≤ length bs
+      → Good (λ row′ q. WithAnswers row (recordsOver bs version e p) row′ × (q ≡ e)) (recordsAt bs (length bs) version e row p)
+  records-count row p h within =
+      rw (records-repeated (length bs) row p)
+      (all-count (behindRecord bs) (recordOver bs version) e (answerAt bs version e) answer-counts (length bs) e row p h (omega arith) (omega arith))
 
-    -- one that is read
-    module _ {count end : ℕ} (told : got count end ≡ keeping countOf (recordAt bs version e p)) where
-      pub record-read : Extent version e p (record { count = count; from = p + 2 * version + 2 }) end
-      record-read =
-          let kept = kept-got countOf (recordAt bs version e p) told in
-          let is = good-got (record-extent bs version e p) (kept .1) in
-          record { onward = is .onward; within = is .within; stand = refl; room = omega (arith, is .room, is .stand, kept .2) }
-
-      by-symbols : (row : List ℕ) → oneRecord row p ≡ _then_ (tallied bs row [] count (p + 2 * version + 2)) λ row′ _. got row′ end
-      by-symbols row =
-          let kept = kept-got countOf (recordAt bs version e p) told in
-          let is = good-got (record-extent bs version e p) (kept .1) in
-          then-got _ (kept .1) ∙ ap₂ (λ (n from : ℕ). _then_ (tallied bs row [] n from) λ row′ _. got row′ end) (sym (kept .2)) (is .stand)
-
-      -- its symbols are refused, or added
-      pub symbols-refused : {many : ℕ} {held : List ℕ} (held′ : List ℕ) {c q : ℕ} → Adds many (λ (row : List ℕ). tallied bs row [] count (p + 2 * version + 2)) held (Refusal c q) held′
-          → Adds many (λ (row : List ℕ). oneRecord row p) held (Refusal c q) held′
-      symbols-refused held′ adds row long holds = adds-refused held′ (by-symbols row ∙ then-refusal _ (added-refusal held′ (adds row long holds)))
-
-      pub symbols-added : {many : ℕ} {held : List ℕ} (held′ : List ℕ) {v q : ℕ} → Adds many (λ (row : List ℕ). tallied bs row [] count (p + 2 * version + 2)) held (Got v q) held′
-          → Adds many (λ (row : List ℕ). oneRecord row p) held (Got 0 end) held′
-      symbols-added held′ adds row long holds =
-          let read = added-got held′ (adds row long holds) in
-          adds-got held′ (by-symbols row ∙ then-got _ (read .1)) (read .2)
-
-  pub records-stay : (bound : ℕ) (row : List ℕ) (p : ℕ) → Staying row (recordsAt bs bound version e row p)
-  records-stay bound row p = rw records-repeated (repeated-stays e oneRecord record-stays bound row p)
+-- ---- a book
 
 -- A book at p, of n bytes behind its length
 module _ (bs : List ℕ) (p n version : ℕ) where
@@ -130,42 +169,34 @@ module _ (bs : List ℕ) (p : ℕ) where
           by-tests n version n-is version-is row ∙ passed 60 p (le-ltb (length bs) (p + 4) opened) ∙ passed 60 p (le-ltb (length bs) (p + 4 + n) whole)
           ∙ passed 60 p (ne-eqb (p + 4) (p + 4 + n) (λ e. some (omega arith)))
 
--- what ends from a later place on ends from this one on
-pub ends-sooner : {p q : ℕ} (r : Answered) → p ≤ q → EndsFrom q r → EndsFrom p r
-ends-sooner (Got v n) h is = omega arith
-ends-sooner (Refusal c n) h is = tt
+-- ---- all books
 
 module _ (bs : List ℕ) where
-  pub book-stays : (row : List ℕ) (p : ℕ) → Staying row (bookAt bs row p)
+  -- what a book counts
+  pub book-counts : EachCounts (bookEnd bs) (bookOver bs) (length bs) (bookAt bs)
   unfolding bookAt
-  book-stays row p =
-      unless _ _ _ λ _ _. unless _ _ _ λ _ _. unless _ _ _ λ _ _. unless _ _ _ λ _ _. unless _ _ _ λ _ _. records-stay bs _ _ (length bs) row (p + 5)
+  book-counts row p here =
+      let e = bookEnd bs p in
+      unless _ _ _ λ _ _. unless _ _ (ltb (length bs) e) λ _ whole. unless _ _ (eqb (p + 4) e) λ _ some. unless _ _ _ λ _ _. unless _ _ _ λ _ _.
+      let within = ltb-false (length bs) e whole in
+      each (λ row′ q (added, end). record { added = added; end = end; onward = omega (arith, end); within = omega (arith, end) })
+      (records-count bs (getD bs (p + 4) 0) e row (p + 5) (omega (arith, eqb-false (p + 4) e some)) within)
 
   -- so the books are read
-  pub books-repeated : (bound : ℕ) (row : List ℕ) (p : ℕ) → booksAt bs bound row p ≡ repeated (length bs) (bookAt bs) bound row p
+  pub books-repeated : (bound : ℕ) (row : List ℕ) (p : ℕ) → booksAt bs bound row p ≡ repeated (bookEnd bs) (bookOver bs) (length bs) (bookAt bs) bound row p
   unfolding booksAt repeated
   books-repeated zero row p = refl
   books-repeated (suc bound) row p =
       ap (λ (t : Reading (List ℕ)). elim (ltb p (length bs)) [ false ↦ got row p | true ↦ t ]) (then-cong (bookAt bs row p) (books-repeated bound))
 
-  pub books-stay : (bound : ℕ) (row : List ℕ) (p : ℕ) → Staying row (booksAt bs bound row p)
-  books-stay bound row p = rw books-repeated (repeated-stays (length bs) (bookAt bs) book-stays bound row p)
-
--- All books: what is handed back, and the row after it
-module _ (bs row held : List ℕ) where
-  pub books-refused : {c q : ℕ} → AddedAs (booksAt bs (length bs) row 0) (Refusal c q) held → after (record { number = c; place = q }) row ≡ figures bs row
+-- what is handed back, and the row after it
+module _ (bs row : List ℕ) (row′ : List ℕ) where
+  pub books-refused : {c q : ℕ} → AddedAs (booksAt bs (length bs) row 0) (Refusal c q) row row′ → after (record { number = c; place = q }) row′ ≡ figures bs row
   unfolding figures endedAs
-  books-refused is = sym (ap (endedAs row) (added-refusal held is))
+  books-refused {c} {q} told =
+      let is = added-refusal row told in
+      ap (after (record { number = c; place = q })) (is .1) ∙ sym (ap (endedAs row) (is .0))
 
-  module _ {v q : ℕ} (is : AddedAs (booksAt bs (length bs) row 0) (Got v q) held) where
-    pub books-held : length held ≡ mostSymbols
-    books-held =
-        let read = added-got held is in
-        ap length (read .2) ∙ held-length (read .0)
-
-    pub books-added : after (record { number = 0; place = 0 }) (laidIn held row) ≡ figures bs row
-    unfolding figures endedAs
-    books-added =
-        let read = added-got held is in
-        let stay = good-got (books-stay bs (length bs) row 0) (read .1) in
-        ap (after (record { number = 0; place = 0 })) (ap (λ (l : List ℕ). laidIn l row) (read .2) ∙ laid-over row (read .0) (stay .long) (stay .behind)) ∙ sym (ap (endedAs row) (read .1))
+  pub books-added : {v q : ℕ} → AddedAs (booksAt bs (length bs) row 0) (Got v q) row row′ → after (record { number = 0; place = 0 }) row′ ≡ figures bs row
+  unfolding figures endedAs
+  books-added told = sym (ap (endedAs row) (added-got row told))

@@ -3,12 +3,12 @@
 use mathlib.Core.Bool.{Bool, true, false}
 use mathlib.Core.List.{List, [], _∷_, _++_}
 use mathlib.Core.Path.{_≡_, refl, sym, ap, ap₂, _∙_}
-use Prim.Native.Nat.{ℕ, zero, suc, _+_, _/_, _%_, _≤_, _<_}
+use Prim.Native.Nat.{ℕ, zero, suc, _+_, _-_, _*_, _/_, _%_, _≤_, _<_}
 use native.Mathlib.Omega.{arith}
 use borrow.Author.Tests.{ltb-true, ltb-false, le-ltb, lt-ltb}
 use lib.Dec.{ltb}
-use lib.ListN.{length, getD, take, drop, length-append, length-drop, List·getD-append}
-use lib.Seq.{getD-drop, getD-take, drop-drop, drop-append-add, drop-append-seam, getD-append-add, ext-getD, slice, length-slice}
+use lib.ListN.{length, getD, take, drop, length-append, length-drop, take-append-drop, drop-of-length-le, List·getD-append}
+use lib.Seq.{getD-drop, getD-take, drop-drop, drop-cons, length-take-le, drop-append-le, drop-append-add, drop-append-seam, getD-append-add, ext-getD, slice, length-slice}
 use Rattle.reading.specs.Reading.{Reading, got, _then_}
 use Rattle.reading.specs.Bytes.{twoBytes}
 use Rattle.figures.specs.Figures.{bookEnd, bookAt, booksAt}
@@ -194,3 +194,73 @@ books-laid bs (book ∷ books) (suc bound) p rest enough =
 pub finds-laid : FindsLaid
 unfolding booksIn
 finds-laid books = books-laid (laid books) books (length (laid books)) 0 refl (omega arith)
+
+-- ---- books that are found
+
+module _ (bs : List ℕ) (bytes : (i : ℕ) → getD bs i 0 < 256) where
+  -- a book that is not cut short, at p: its length is the one before it
+  module _ (p : ℕ) (within : bookEnd bs p ≤ length bs) where
+    abbrev bookThere : List ℕ
+    bookThere = slice (p + 4) (bookEnd bs p) bs
+
+    there-long : length bookThere ≡ bookEnd bs p - (p + 4)
+    there-long = length-slice (p + 4) (bookEnd bs p) bs within
+
+    opening-there : opening bookThere ≡ getD bs p 0 ∷ getD bs (p + 1) 0 ∷ getD bs (p + 2) 0 ∷ getD bs (p + 3) 0 ∷ []
+    unfolding twoBytes
+    opening-there =
+        let last : getD bs (p + 2 + 1) 0 ≡ getD bs (p + 3) 0 = ap (λ (n : ℕ). getD bs n 0) (omega arith) in
+        let long : length bookThere ≡ (getD bs p 0 * 256 + getD bs (p + 1) 0) * 65536 + (getD bs (p + 2) 0 * 256 + getD bs (p + 3) 0) = omega (arith, there-long, last) in
+        let a : length bookThere / 65536 / 256 ≡ getD bs p 0 = omega (arith, bytes (p + 1), bytes (p + 2), bytes (p + 3)) in
+        let b : length bookThere / 65536 % 256 ≡ getD bs (p + 1) 0 = omega (arith, bytes (p + 1), bytes (p + 2), bytes (p + 3)) in
+        let c : length bookThere % 65536 / 256 ≡ getD bs (p + 2) 0 = omega (arith, bytes (p + 2), bytes (p + 3)) in
+        let d : length bookThere % 65536 % 256 ≡ getD bs (p + 3) 0 = omega (arith, bytes (p + 2), bytes (p + 3)) in
+        rw (a, b, c, d)
+
+    four-there : drop p bs ≡ getD bs p 0 ∷ getD bs (p + 1) 0 ∷ getD bs (p + 2) 0 ∷ getD bs (p + 3) 0 ∷ drop (p + 4) bs
+    four-there =
+        let one : p + 1 ≡ suc p = omega arith in
+        let two : p + 2 ≡ suc (p + 1) = omega arith in
+        let three : p + 3 ≡ suc (p + 2) = omega arith in
+        let four : p + 4 ≡ suc (p + 3) = omega arith in
+        drop-cons bs p 0 (omega arith)
+        ∙ ap (λ (l : List ℕ). getD bs p 0 ∷ l) (ap (λ (n : ℕ). drop n bs) (sym one) ∙ drop-cons bs (p + 1) 0 (omega arith)
+        ∙ ap (λ (l : List ℕ). getD bs (p + 1) 0 ∷ l) (ap (λ (n : ℕ). drop n bs) (sym two) ∙ drop-cons bs (p + 2) 0 (omega arith)
+        ∙ ap (λ (l : List ℕ). getD bs (p + 2) 0 ∷ l) (ap (λ (n : ℕ). drop n bs) (sym three) ∙ drop-cons bs (p + 3) 0 (omega arith)
+        ∙ ap (λ (l : List ℕ). getD bs (p + 3) 0 ∷ l) (ap (λ (n : ℕ). drop n bs) (sym four)))))
+
+    split-there : drop (p + 4) bs ≡ bookThere ++ drop (bookEnd bs p) bs
+    split-there =
+        ap (drop (p + 4)) (sym (take-append-drop (bookEnd bs p) bs))
+        ∙ drop-append-le (p + 4) (take (bookEnd bs p) bs) (drop (bookEnd bs p) bs) (omega (arith, length-take-le (bookEnd bs p) bs within))
+
+    -- so it is laid there, before what stands behind it
+    found-there : (books : List (List ℕ)) → laid books ≡ drop (bookEnd bs p) bs → laid (bookThere ∷ books) ≡ drop p bs
+    unfolding laid twoBytes
+    found-there books behind =
+        ap (λ (l : List ℕ). opening bookThere ++ bookThere ++ l) behind
+        ∙ ap (λ (l : List ℕ). opening bookThere ++ l) (sym split-there)
+        ∙ ap (λ (l : List ℕ). l ++ drop (p + 4) bs) opening-there
+        ∙ sym four-there
+
+  -- all books, where none is cut short
+  pub books-found : (bound p : ℕ) → p ≤ length bs → length bs ≡ p + length (laid (booksFrom bs bound p)) → laid (booksFrom bs bound p) ≡ drop p bs
+  unfolding laid booksFrom
+  books-found zero p h whole = sym (drop-of-length-le bs {i = p} (omega arith))
+  books-found (suc bound) p h whole = by (ltb p (length bs)) (ltb (length bs) (bookEnd bs p)) refl refl (books-found bound (bookEnd bs p))
+    where
+      by : (s t : Bool) → ltb p (length bs) ≡ s → ltb (length bs) (bookEnd bs p) ≡ t
+          → (bookEnd bs p ≤ length bs → length bs ≡ bookEnd bs p + length (laid (booksFrom bs bound (bookEnd bs p))) → laid (booksFrom bs bound (bookEnd bs p)) ≡ drop (bookEnd bs p) bs)
+          → laid (booksFrom bs (suc bound) p) ≡ drop p bs
+      by false t past is others =
+          let end = ltb-false p (length bs) past in
+          rw (books-none bs (suc bound) p end) (sym (drop-of-length-le bs {i = p} end))
+      by true true before cut others =
+          let none = rw (books-cut bs (suc bound) p (ltb-true (length bs) (bookEnd bs p) cut)) at whole in
+          absurd (omega (arith, none, ltb-true p (length bs) before))
+      by true false before fits others =
+          let within = ltb-false (length bs) (bookEnd bs p) fits in
+          let more = books-more bs bound p within in
+          let whole′ = rw more at whole in
+          rw more (found-there p within (booksFrom bs bound (bookEnd bs p))
+          (others within (omega (arith, whole′, laid-long (bookThere p within) (booksFrom bs bound (bookEnd bs p)), there-long p within))))

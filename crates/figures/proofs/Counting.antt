@@ -1,18 +1,19 @@
 -- Where a book lies among other bytes its answers are counted, exactly if it is in the layout and the row has room for them.
-use mathlib.Core.Bool.{false}
+use mathlib.Core.Bool.{false, not}
 use mathlib.Core.List.{List, []}
-use mathlib.Core.Path.{_≡_}
-use Prim.Native.Nat.{ℕ, zero, suc, _+_, _-_, _≤_, _<_}
+use mathlib.Core.Path.{_≡_, sym, ap, _∙_}
+use Prim.Native.Nat.{ℕ, zero, suc, _+_, _-_, _/_, _≤_, _<_}
 use native.Mathlib.Omega.{arith}
-use borrow.Author.Tests.{ltb-true, ltb-false, eqb-false, ne-eqb, le-ltb}
+use borrow.Author.Tests.{ltb-true, ltb-false, eqb-false, ne-eqb, le-ltb, not-false}
 use lib.Dec.{ltb, eqb}
 use lib.ListN.{length, getD}
 use Rattle.reading.specs.Reading.{Reading, got}
-use Rattle.figures.specs.Figures.{bookEnd, recordsAt, bookAt}
+use Rattle.figures.specs.AnswerBook.{rising}
+use Rattle.figures.specs.Figures.{bookEnd, symbolsAdded, answerAt, recordsAt, bookAt}
 use Rattle.figures.specs.Counts.{howMany, symbolsAt, answersAt, answersOf}
 use Rattle.figures.proofs.Exactly.{Exactly, read, next, unless, either, so}
 use Rattle.figures.proofs.Tallying.{Added, Room, Sum, added-none, room-none, added-more, room-first, room-others, room-all, adds, once, tallied-added}
-use Rattle.figures.proofs.Laying.{endAt, symbolsFrom, symbolCount, Fits, answers-none, answers-more, LiesFrom, record-alone}
+use Rattle.figures.proofs.Laying.{endAt, symbolsFrom, symbolCount, decisionsFrom, Fits, answers-none, answers-more, LiesFrom, record-alone}
 
 -- the row with these answers counted in its totals, and one that has room for them
 abbrev pub WithAnswers : List ℕ → List (List ℕ) → List ℕ → Type 0
@@ -44,6 +45,10 @@ module _ (bs : List ℕ) (b : ℕ) (book : List ℕ) (lies : LiesFrom bs b book)
   abbrev answers : ℕ → ℕ → List (List ℕ)
   answers bound i = answersAt book bound version (length book) i
 
+  -- the symbols of the one at i
+  abbrev symbols : ℕ → List ℕ
+  symbols i = symbolsAt book (symbolCount book version i) (symbolsFrom book version i)
+
   -- what counting them has to give
   abbrev Records : ℕ → List ℕ → ℕ → Reading (List ℕ) → Type 0
   Records bound row i = Exactly (Well book version i × RoomFor row (answers bound i)) (λ row′ q. WithAnswers row (answers bound i) row′ × (q ≡ e))
@@ -54,19 +59,30 @@ module _ (bs : List ℕ) (b : ℕ) (book : List ℕ) (lies : LiesFrom bs b book)
   records-none row bound p i place end = rw (answers-none book version (length book) bound i (omega arith)) (read {a = row} {p = p} (ended {i = i} (omega arith), room-none row) (added-none row, omega arith))
 
   -- before it one answer is, and then those behind it
-  module _ (row : List ℕ) (bound i : ℕ) (some : 0 < bound) (fits : Fits book version i (length book)) (symbols : List ℕ)
-      (same : symbols ≡ symbolsAt book (symbolCount book version i) (symbolsFrom book version i)) where
-    answers-sum : Sum (λ f. howMany f (answers bound i)) (adds [] symbols) (λ f. howMany f (answers (bound - 1) (endAt book version i)))
-    answers-sum = rw (answers-more book version (length book) bound i some fits, ← same) (once symbols (answers (bound - 1) (endAt book version i)))
+  module _ (row : List ℕ) (bound i : ℕ) (some : 0 < bound) (fits : Fits book version i (length book)) where
+    answers-sum : Sum (λ f. howMany f (answers bound i)) (adds [] (symbols i)) (λ f. howMany f (answers (bound - 1) (endAt book version i)))
+    answers-sum = rw (answers-more book version (length book) bound i some fits) (once (symbols i) (answers (bound - 1) (endAt book version i)))
 
-    record-more : {mid : List ℕ} {r : Reading (List ℕ)} → Room row (adds [] symbols) → Added row (adds [] symbols) mid
+    record-more : {mid : List ℕ} {r : Reading (List ℕ)} → Room row (adds [] (symbols i)) → Added row (adds [] (symbols i)) mid
         → Records (bound - 1) mid (endAt book version i) r → Records bound row i r
     record-more room one =
-        let before : i < length book = omega (arith, fits .opened) in
+        let before : i < length book = omega (arith, fits .0 .opened) in
         so
         (λ (well, left). (another fits well, room-all one answers-sum room left))
         (λ (well, all). (well-others book version before well, room-others one answers-sum all))
         (λ row′ q _ (added, end). (added-more one answers-sum added, end))
+
+  -- one answer is
+  answer-added : (row : List ℕ) (p i : ℕ) → p ≡ b + i
+      → Exactly (Fits book version i (length book) × Room row (adds [] (symbols i))) (λ mid q. Added row (adds [] (symbols i)) mid × (q ≡ b + endAt book version i)) (answerAt bs version e row p)
+  unfolding answerAt symbolsAdded
+  answer-added row p i place =
+      next (record-alone bs b book lies version p i e place ends) (λ (fits, _). fits .0) λ there end opens alone.
+      next (rw (alone .same) at (tallied-added bs row [] (there .count) (there .from))) (λ (_, room). room) λ mid q room (one, stop).
+      let same : rising bs ((end - q) / 2) 0 q ≡ rising book ((endAt book version i - decisionsFrom book version i) / 2) 0 (decisionsFrom book version i) =
+      ap (λ (n : ℕ). rising bs ((end - n) / 2) 0 n) stop ∙ alone .rises in
+      unless _ _ (not (rising bs ((end - q) / 2) 0 q)) (omega arith) (λ (fits, _). ap not (same ∙ fits .1)) λ _ told.
+      read ((opens, sym same ∙ not-false (rising bs ((end - q) / 2) 0 q) told), room) (one, alone .behind)
 
   -- all its answers are
   records-added : (bound bound′ : ℕ) (row : List ℕ) (p i : ℕ) → p ≡ b + i → i ≤ length book → length book ≤ i + bound → length book ≤ i + bound′
@@ -78,11 +94,9 @@ module _ (bs : List ℕ) (b : ℕ) (book : List ℕ) (lies : LiesFrom bs b book)
       (λ past. records-none row bound′ p i place (omega (arith, ltb-false p e past)))
       (λ before.
       let inside : i < length book = omega (arith, ltb-true p e before) in
-      next (record-alone bs b book lies version p i e place ends) (λ (well, _). well-first book version inside well) λ there q fits alone.
-      let symbols = symbolsAt bs (there .count) (there .from) in
-      next (tallied-added bs row [] (there .count) (there .from)) (λ (_, room). room-first row (answers-sum row bound′ i (omega arith) fits symbols (alone .same)) room) λ mid _ room one.
-      record-more row bound′ i (omega arith) fits symbols (alone .same) room one
-      (records-added bound (bound′ - 1) mid q (endAt book version i) (alone .behind) (fits .within) (omega arith) (omega arith)))
+      let some : 0 < bound′ = omega arith in
+      next (answer-added row p i place) (λ (well, room). (well-first book version inside well, room-first row (answers-sum row bound′ i some (well-first book version inside well)) room)) λ mid q (fits, room) (one, end).
+      record-more row bound′ i some fits room one (records-added bound (bound′ - 1) mid q (endAt book version i) end (fits .0 .within) (omega arith) (omega arith)))
 
 -- ---- one book
 

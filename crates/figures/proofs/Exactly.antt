@@ -3,6 +3,8 @@ use mathlib.Core.Bool.{Bool, true, false, true≢false}
 use mathlib.Core.Path.{_≡_, refl}
 use Prim.Native.Nat.{ℕ, _<_}
 use Rattle.reading.specs.Reading.{Reading, got, refusal, _then_, refuse_at_if_else_}
+use Rattle.reading.proofs.Good.{Good, good}
+use Rattle.reading.proofs.Good as G
 
 -- something is read exactly if C holds, and with the place behind it is as P says; a refusal has a number above 0
 pub data Exactly {A : Type 0} (C : Type 0) (P : A → ℕ → Type 0) : Reading A → Type 0 where
@@ -34,3 +36,8 @@ pub so : {A : Type 0} {C D : Type 0} {P Q : A → ℕ → Type 0} {r : Reading A
     → Exactly C P r → Exactly D Q r
 so to from f (read {a} {p} c is) = read (to c) (f a p c is)
 so to from f (refused lt not) = refused lt (λ d. not (from d))
+
+-- whatever was read is so
+pub whatever : {A : Type 0} {C : Type 0} {P : A → ℕ → Type 0} {r : Reading A} → Exactly C P r → Good P r
+whatever (read c is) = good is
+whatever (refused lt not) = G.refused

@@ -4,15 +4,15 @@ use mathlib.Core.List.{List, [], _∷_}
 use mathlib.Core.Path.{_≡_, refl, sym, ap, ap₂, _∙_}
 use Prim.Native.Nat.{ℕ, zero, suc, _+_, _-_, _*_, _/_, _%_, _≤_, _<_}
 use native.Mathlib.Omega.{arith}
-use borrow.Author.Tests.{ltb-false, le-ltb, lt-ltb, not-false, eqb-true}
+use borrow.Author.Tests.{ltb-false, le-ltb, lt-ltb, not-false}
 use lib.Dec.{leb, ltb, eqb}
 use lib.ListN.{length, getD}
 use Rattle.limits.specs.Sizes.{mostChoices}
 use Rattle.reading.specs.Reading.{Reading, got}
 use Rattle.reading.specs.Bytes.{bigEndian}
-use Rattle.figures.specs.AnswerBook.{Symbols, rising, asked, recordAt}
+use Rattle.figures.specs.AnswerBook.{Symbols, rising, recordAt, wholeAt}
 use Rattle.figures.specs.Counts.{symbolsAt, answersAt}
-use Rattle.figures.proofs.Exactly.{Exactly, read, refused, unless, so}
+use Rattle.figures.proofs.Exactly.{Exactly, read, refused, next, unless, so}
 
 -- ---- a record that can be read
 
@@ -30,48 +30,57 @@ module _ (bs : List ℕ) (version p : ℕ) where
   abbrev pub decisionsFrom : ℕ
   decisionsFrom = symbolsFrom + 2 * symbolCount
 
-  -- it passes each test, in a book that ends at e
-  pub record Fits (e : ℕ) : Type 0 where
+  -- it passes each test up to its symbols, in a book that ends at e
+  pub record Opens (e : ℕ) : Type 0 where
     pub opened : p + 2 ≤ e
     pub within : endAt ≤ e
     pub counted : symbolsFrom ≤ endAt
-    pub askable : asked bs version p ≡ true
     pub some : eqb symbolCount 0 ≡ false
     pub holds : decisionsFrom ≤ endAt
     pub even : eqb ((endAt - decisionsFrom) % 2) 1 ≡ false
-    pub rises : rising bs ((endAt - decisionsFrom) / 2) 0 decisionsFrom ≡ true
+
+  -- and its decisions do
+  abbrev pub Rises : Type 0
+  Rises = rising bs ((endAt - decisionsFrom) / 2) 0 decisionsFrom ≡ true
+
+  abbrev pub Fits : ℕ → Type 0
+  Fits e = Opens e × Rises
 
   -- what is read of it
   abbrev found : Symbols
   found = record { count = symbolCount; from = symbolsFrom }
 
   -- it is read exactly if it does
-  read-fits : (e : ℕ) → Exactly (Fits e) (λ a q. (a ≡ found) × (q ≡ endAt)) (recordAt bs version e p)
+  pub read-opens : (e : ℕ) → Exactly (Opens e) (λ a q. (a ≡ found) × (q ≡ endAt)) (recordAt bs version e p)
   unfolding recordAt
-  read-fits e =
+  read-opens e =
       unless _ _ (ltb e (p + 2)) (omega arith) (λ fits. le-ltb e (p + 2) (fits .opened)) λ _ opened.
       unless _ _ (ltb e endAt) (omega arith) (λ fits. le-ltb e endAt (fits .within)) λ _ within.
       unless _ _ (ltb endAt symbolsFrom) (omega arith) (λ fits. le-ltb endAt symbolsFrom (fits .counted)) λ _ counted.
-      unless _ _ (not (asked bs version p)) (omega arith) (λ fits. ap not (fits .askable)) λ _ askable.
       unless _ _ (eqb symbolCount 0) (omega arith) (λ fits. fits .some) λ _ some.
       unless _ _ (ltb endAt decisionsFrom) (omega arith) (λ fits. le-ltb endAt decisionsFrom (fits .holds)) λ _ holds.
       unless _ _ (eqb ((endAt - decisionsFrom) % 2) 1) (omega arith) (λ fits. fits .even) λ _ even.
-      unless _ _ (not (rising bs ((endAt - decisionsFrom) / 2) 0 decisionsFrom)) (omega arith) (λ fits. ap not (fits .rises)) λ _ rises.
       read (
       record {
         opened = ltb-false e (p + 2) opened;
         within = ltb-false e endAt within;
         counted = ltb-false endAt symbolsFrom counted;
-        askable = not-false (asked bs version p) askable;
         some = some;
         holds = ltb-false endAt decisionsFrom holds;
         even = even;
-        rises = not-false (rising bs ((endAt - decisionsFrom) / 2) 0 decisionsFrom) rises;
       }
       ) (refl, refl)
 
+  read-fits : (e : ℕ) → Exactly (Fits e) (λ a q. (a ≡ found) × (q ≡ endAt)) (wholeAt bs version e p)
+  unfolding wholeAt
+  read-fits e =
+      next (read-opens e) (λ (opens, _). opens) λ a q opens (is, end).
+      rw (is, end) (
+      unless _ _ (not (rising bs ((endAt - decisionsFrom) / 2) 0 decisionsFrom)) (omega arith) (λ (_, rises). ap not rises) λ _ rises.
+      read (opens, not-false (rising bs ((endAt - decisionsFrom) / 2) 0 decisionsFrom) rises) (refl, refl))
+
   -- then it gives its symbols
-  fits-read : (e : ℕ) → Fits e → recordAt bs version e p ≡ got found endAt
+  fits-read : (e : ℕ) → Fits e → wholeAt bs version e p ≡ got found endAt
   fits-read e fits = by (read-fits e)
     where
       by : {r : Reading Symbols} → Exactly (Fits e) (λ a q. (a ≡ found) × (q ≡ endAt)) r → r ≡ got found endAt
@@ -94,7 +103,7 @@ module _ (book : List ℕ) (version e : ℕ) where
   answers-more zero i some fits = absurd (omega arith)
   answers-more (suc bound) i some fits =
       let less : suc bound - 1 ≡ bound = omega arith in
-      simp (answersAt, lt-ltb i e (omega (arith, fits .opened)), fits-read book version i e fits, less)
+      simp (answersAt, lt-ltb i e (omega (arith, fits .0 .opened)), fits-read book version i e fits, less)
 
 -- ---- a book among other bytes
 
@@ -127,44 +136,43 @@ module _ {bs cs : List ℕ} {b c n : ℕ} (alike : Alike bs b cs c n) where
       let more = rising-there k (suc (bigEndian bs p / 2)) (p + 2) (i + 2) (omega arith) (omega arith) (omega arith) in
       ap₂ (λ (m : ℕ) (t : Bool). elim (leb least (m / 2)) [ false ↦ false | true ↦ elim (ltb (m / 2) mostChoices) [ false ↦ false | true ↦ t ] ]) same (more ∙ rw same)
 
-  -- the number of its question
-  asked-there : (version p i : ℕ) → b ≤ p → p + 2 * version ≤ b + n → p + c ≡ i + b → asked bs version p ≡ asked cs version i
-  unfolding asked
-  asked-there version p i low high place = by (eqb version 2) refl
-    where
-      by : (t : Bool) → eqb version 2 ≡ t → asked bs version p ≡ asked cs version i
-      by false is = simp (asked, is)
-      by true is =
-          let two = eqb-true version 2 is in
-          simp (asked, is, number-there (p + 2) (i + 2) (omega arith) (omega arith) (omega arith))
-
   -- a record
-  module _ (version p i e e′ : ℕ) (low : b ≤ p) (place : p + c ≡ i + b) (ends : e ≡ b + n) (ends′ : e′ ≡ c + n) (fits : Fits bs version p e) where
+  module _ (version p i e e′ : ℕ) (low : b ≤ p) (place : p + c ≡ i + b) (ends : e ≡ b + n) (ends′ : e′ ≡ c + n) (opens : Opens bs version p e) where
     size-there : bigEndian bs p ≡ bigEndian cs i
-    size-there = number-there p i low (omega (arith, fits .opened)) place
+    size-there = number-there p i low (omega (arith, opens .opened)) place
 
     count-there : symbolCount bs version p ≡ symbolCount cs version i
-    count-there = number-there (p + 2 * version) (i + 2 * version) (omega arith) (omega (arith, fits .within, fits .counted)) (omega arith)
+    count-there = number-there (p + 2 * version) (i + 2 * version) (omega arith) (omega (arith, opens .within, opens .counted)) (omega arith)
 
     found-there : symbolsAt bs (symbolCount bs version p) (symbolsFrom bs version p) ≡ symbolsAt cs (symbolCount cs version i) (symbolsFrom cs version i)
     found-there =
-        rw (← count-there) (symbols-there (symbolCount bs version p) (symbolsFrom bs version p) (symbolsFrom cs version i) (omega arith) (omega (arith, fits .holds, fits .within)) (omega arith))
+        rw (← count-there) (symbols-there (symbolCount bs version p) (symbolsFrom bs version p) (symbolsFrom cs version i) (omega arith) (omega (arith, opens .holds, opens .within)) (omega arith))
 
-    fits-there : Fits cs version i e′
-    fits-there =
+    left-there : endAt bs version p - decisionsFrom bs version p ≡ endAt cs version i - decisionsFrom cs version i
+    left-there =
         let size = size-there in
         let count = count-there in
-        let left : endAt bs version p - decisionsFrom bs version p ≡ endAt cs version i - decisionsFrom cs version i = omega arith in
+        omega arith
+
+    opens-there : Opens cs version i e′
+    opens-there =
+        let size = size-there in
+        let count = count-there in
         record {
-          opened = omega (arith, fits .opened);
-          within = omega (arith, fits .within);
-          counted = omega (arith, fits .counted);
-          askable = sym (asked-there version p i low (omega (arith, fits .within, fits .counted)) place) ∙ fits .askable;
-          some = rw count at (fits .some);
-          holds = omega (arith, fits .holds);
-          even = rw left at (fits .even);
-          rises = rw (← left) (sym (rising-there ((endAt bs version p - decisionsFrom bs version p) / 2) 0 (decisionsFrom bs version p) (decisionsFrom cs version i) (omega arith) (omega (arith, fits .holds, fits .within)) (omega arith)) ∙ fits .rises);
+          opened = omega (arith, opens .opened);
+          within = omega (arith, opens .within);
+          counted = omega (arith, opens .counted);
+          some = rw count at (opens .some);
+          holds = omega (arith, opens .holds);
+          even = rw left-there at (opens .even);
         }
+
+    rises-there : rising bs ((endAt bs version p - decisionsFrom bs version p) / 2) 0 (decisionsFrom bs version p)
+        ≡ rising cs ((endAt cs version i - decisionsFrom cs version i) / 2) 0 (decisionsFrom cs version i)
+    rises-there =
+        let count = count-there in
+        rw (← left-there)
+        (rising-there ((endAt bs version p - decisionsFrom bs version p) / 2) 0 (decisionsFrom bs version p) (decisionsFrom cs version i) (omega arith) (omega (arith, opens .holds, opens .within)) (omega arith))
 
 -- a book lies from b on
 abbrev pub LiesFrom : List ℕ → ℕ → List ℕ → Type 0
@@ -176,14 +184,17 @@ module _ (bs : List ℕ) (b : ℕ) (book : List ℕ) (lies : LiesFrom bs b book)
   pub record Alone (there : Symbols) (q : ℕ) : Type 0 where
     pub same : symbolsAt bs (there .count) (there .from) ≡ symbolsAt book (symbolCount book version i) (symbolsFrom book version i)
     pub behind : q ≡ b + endAt book version i
+    pub rises : rising bs ((q - (there .from + 2 * there .count)) / 2) 0 (there .from + 2 * there .count)
+        ≡ rising book ((endAt book version i - decisionsFrom book version i) / 2) 0 (decisionsFrom book version i)
 
-  pub record-alone : Exactly (Fits book version i (length book)) Alone (recordAt bs version e p)
+  pub record-alone : Exactly (Opens book version i (length book)) Alone (recordAt bs version e p)
   record-alone =
       so
-      (fits-there lies version p i e (length book) (omega arith) (omega arith) ends (omega arith))
-      (fits-there (alike-sym lies) version i p (length book) e (omega arith) (omega arith) (omega arith) ends)
-      (λ there q fits (is, end). record {
-        same = rw is (found-there lies version p i e (length book) (omega arith) (omega arith) ends (omega arith) fits);
-        behind = omega (arith, end, size-there lies version p i e (length book) (omega arith) (omega arith) ends (omega arith) fits);
+      (opens-there lies version p i e (length book) (omega arith) (omega arith) ends (omega arith))
+      (opens-there (alike-sym lies) version i p (length book) e (omega arith) (omega arith) (omega arith) ends)
+      (λ there q opens (is, end). record {
+        same = rw is (found-there lies version p i e (length book) (omega arith) (omega arith) ends (omega arith) opens);
+        behind = omega (arith, end, size-there lies version p i e (length book) (omega arith) (omega arith) ends (omega arith) opens);
+        rises = rw (is, end) (rises-there lies version p i e (length book) (omega arith) (omega arith) ends (omega arith) opens);
       })
-      (read-fits bs version p e)
+      (read-opens bs version p e)

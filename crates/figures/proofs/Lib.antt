@@ -1,8 +1,4 @@
-pub mod Held
 pub mod RecordWays
-pub mod TallyWays
-pub mod Repeated
-pub mod BookWays
 pub mod Exactly
 pub mod Tallying
 pub mod Laying
@@ -10,3 +6,7 @@ pub mod Counting
 pub mod Books
 pub mod Order
 pub mod Runs
+pub mod Taking
+pub mod TallyWays
+pub mod Repeated
+pub mod BookWays

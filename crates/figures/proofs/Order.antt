@@ -9,10 +9,10 @@ use lib.ListN.{length, getD}
 use lib.Seq.{ext-getD}
 use Rattle.reading.specs.Reading.{Reading}
 use Rattle.figures.specs.Figures.{booksAt, Outcome, endedAs, figures}
-use Rattle.figures.specs.Counts.{howMany, allAnswers, laid, booksIn, Counted, AnyOrder}
+use Rattle.figures.specs.Counts.{howMany, allAnswers, laid, booksIn, Counted, AnyOrder, FoundAreLaid, AnyOrderFound}
 use Rattle.figures.proofs.Exactly.{read, refused}
 use Rattle.figures.proofs.Counting.{WithAnswers, Readable}
-use Rattle.figures.proofs.Books.{AllReadable, none, also, howMany-both, Countable, Books, books-added, finds-laid}
+use Rattle.figures.proofs.Books.{AllReadable, none, also, howMany-both, Countable, Books, books-added, finds-laid, books-found}
 
 -- ---- what is handed back
 
@@ -79,7 +79,7 @@ reordered-finishes books others row order h =
       λ f some.
           let same = reordered-same f order in
           let there = fine .2 f (omega arith) in
-          (there .0, there .1, omega (arith, there .2)),
+          (there .0, omega (arith, there .1)),
     ))
 
 -- "WHERE NONE IS REFUSED the order of the books doesn't matter"
@@ -94,3 +94,15 @@ any-order books others row order h =
     let in-row : f < length row = omega (arith, other .added .long) in
     omega (arith, other .added .total f in-row, one .added .total f in-row, same f)) in
     other .is ∙ ap (λ (r : List ℕ). record { number = 0; place = 0; row = r }) rows ∙ sym (one .is)
+
+-- ---- any buffer
+
+-- EVERY BUFFER OF BYTES that is not refused is one of books that are laid
+pub found-are-laid : FoundAreLaid
+unfolding booksIn
+found-are-laid bs row bytes h = books-found bs bytes (length bs) 0 (omega arith) (finished bs row h .fine .0)
+
+pub any-order-found : AnyOrderFound
+any-order-found bs row others bytes order h =
+    let same = found-are-laid bs row bytes h in
+    any-order (booksIn bs) others row order (ap (λ (l : List ℕ). figures l row .number) same ∙ h) ∙ ap (λ (l : List ℕ). figures l row) same

@@ -1,5 +1,5 @@
 -- A record, one lemma for each way through the code; and where a record that was read ends.
-use mathlib.Core.Bool.{true, false, not}
+use mathlib.Core.Bool.{false}
 use mathlib.Core.List.{List}
 use mathlib.Core.Path.{_≡_, refl, sym, ap, ap₂, _∙_}
 use Prim.Native.Nat.{ℕ, zero, suc, _+_, _-_, _*_, _/_, _%_, _≤_, _<_}
@@ -15,7 +15,7 @@ use Rattle.reading.specs.declared.Reading.{Reading as Answered}
 use Rattle.reading.specs.declared.Reading.the-variants.{Refusal}
 use Rattle.reading.proofs.Good.{Good, good, unless}
 use Rattle.reading.proofs.Keeping.{passed, failed-test}
-use Rattle.figures.specs.AnswerBook.{mostQuestions, Symbols, rising, asked, recordAt}
+use Rattle.figures.specs.AnswerBook.{Symbols, rising, recordAt}
 use Rattle.figures.specs.InCode.{countOf}
 
 -- k decision numbers from p on, the first of them for a choice
@@ -37,59 +37,37 @@ module _ (bs : List ℕ) (least p choice : ℕ) (is : choice ≡ bigEndian bs p 
         ap (λ (j : ℕ). rising bs j least p) more
         ∙ simp (rising, ← is, le-leb least choice low, lt-ltb choice mostChoices h) (ap (λ (next : ℕ). rising bs left next (p + 2)) (sym (add-one choice)))
 
--- the question's number, n, of a record of version 2
-pub question-asked : (bs : List ℕ) (version p n : ℕ) → version ≡ 2 → n ≡ bigEndian bs (p + 2) → ltb n 32 ≡ asked bs version p
-unfolding asked mostQuestions
-question-asked bs version p n v is = simp (asked, eq-eqb version 2 v, is)
-
 -- A record at p, of length n: what its tests come to, by stages.
-module _ (bs : List ℕ) (version p n count : ℕ) where
+module _ (version p n count : ℕ) where
   abbrev decisionsFrom : ℕ
   decisionsFrom = p + 2 * version + 2 + 2 * count
 
   abbrev bytesLeft : ℕ
   bytesLeft = p + 2 + n - decisionsFrom
 
-  -- behind its symbols
-  abbrev pub decided : Reading Symbols
-  decided =
-      refuse_at_if_else_ 60 p (eqb (bytesLeft % 2) 1) λ _.
-      refuse_at_if_else_ 60 p (not (rising bs (bytesLeft / 2) 0 decisionsFrom)) λ _.
-      got (record { count = count; from = p + 2 * version + 2 }) (p + 2 + n)
-
-  -- its last decision is cut off; they do not rise; it is read
-  pub decision-cut : bytesLeft % 2 ≡ 1 → decided ≡ refusal 60 p
-  decision-cut h = failed-test 60 p _ (eq-eqb _ 1 h)
-
-  module _ (even : bytesLeft % 2 ≡ 1 → ⊥) where
-    pub not-rising : rising bs (bytesLeft / 2) 0 decisionsFrom ≡ false → decided ≡ refusal 60 p
-    not-rising h = passed 60 p (ne-eqb (bytesLeft % 2) 1 even) ∙ failed-test 60 p _ (ap not h)
-
-    pub record-read : rising bs (bytesLeft / 2) 0 decisionsFrom ≡ true → decided ≡ got (record { count = count; from = p + 2 * version + 2 }) (p + 2 + n)
-    record-read h = passed 60 p (ne-eqb (bytesLeft % 2) 1 even) ∙ passed 60 p (ap not h)
-
   -- behind its symbol count
   abbrev pub counted : Reading Symbols
   counted =
-      refuse_at_if_else_ 60 p (not (asked bs version p)) λ _.
       refuse_at_if_else_ 60 p (eqb count 0) λ _.
       refuse_at_if_else_ 60 p (ltb (p + 2 + n) decisionsFrom) λ _.
-      decided
+      refuse_at_if_else_ 60 p (eqb (bytesLeft % 2) 1) λ _.
+      got (record { count = count; from = p + 2 * version + 2 }) (p + 2 + n)
 
-  -- its question cannot be; it has no symbol; they are cut off; they stand there
-  pub not-asked : asked bs version p ≡ false → counted ≡ refusal 60 p
-  not-asked h = failed-test 60 p _ (ap not h)
+  -- it has no symbol; they are cut off; its last decision is cut off; it is read
+  pub no-symbol : count ≡ 0 → counted ≡ refusal 60 p
+  no-symbol h = failed-test 60 p _ (eq-eqb count 0 h)
 
-  module _ (question : asked bs version p ≡ true) where
-    pub no-symbol : count ≡ 0 → counted ≡ refusal 60 p
-    no-symbol h = passed 60 p (ap not question) ∙ failed-test 60 p _ (eq-eqb count 0 h)
+  module _ (some : count ≡ 0 → ⊥) where
+    pub symbols-cut : p + 2 + n < decisionsFrom → counted ≡ refusal 60 p
+    symbols-cut h = passed 60 p (ne-eqb count 0 some) ∙ failed-test 60 p _ (lt-ltb _ _ h)
 
-    module _ (some : count ≡ 0 → ⊥) where
-      pub symbols-cut : p + 2 + n < decisionsFrom → counted ≡ refusal 60 p
-      symbols-cut h = passed 60 p (ap not question) ∙ passed 60 p (ne-eqb count 0 some) ∙ failed-test 60 p _ (lt-ltb _ _ h)
+    module _ (holds : decisionsFrom ≤ p + 2 + n) where
+      pub decision-cut : bytesLeft % 2 ≡ 1 → counted ≡ refusal 60 p
+      decision-cut h = passed 60 p (ne-eqb count 0 some) ∙ passed 60 p (le-ltb (p + 2 + n) decisionsFrom holds) ∙ failed-test 60 p _ (eq-eqb _ 1 h)
 
-      pub symbols-there : decisionsFrom ≤ p + 2 + n → counted ≡ decided
-      symbols-there h = passed 60 p (ap not question) ∙ passed 60 p (ne-eqb count 0 some) ∙ passed 60 p (le-ltb (p + 2 + n) decisionsFrom h)
+      pub record-read : (bytesLeft % 2 ≡ 1 → ⊥) → counted ≡ got (record { count = count; from = p + 2 * version + 2 }) (p + 2 + n)
+      record-read even =
+          passed 60 p (ne-eqb count 0 some) ∙ passed 60 p (le-ltb (p + 2 + n) decisionsFrom holds) ∙ passed 60 p (ne-eqb (bytesLeft % 2) 1 even)
 
 -- a record at p of a book that ends at e
 module _ (bs : List ℕ) (version e p : ℕ) where
@@ -98,7 +76,7 @@ module _ (bs : List ℕ) (version e p : ℕ) where
       refuse_at_if_else_ 60 p (ltb e (p + 2)) λ _.
       refuse_at_if_else_ 60 p (ltb e (p + 2 + n)) λ _.
       refuse_at_if_else_ 60 p (ltb (p + 2 + n) (p + 2 * version + 2)) λ _.
-      counted bs version p n count
+      counted version p n count
 
   by-tests : (n count : ℕ) → n ≡ bigEndian bs p → count ≡ bigEndian bs (p + 2 * version) → recordAt bs version e p ≡ tested n count
   unfolding recordAt
@@ -116,7 +94,7 @@ module _ (bs : List ℕ) (version e p : ℕ) where
       pub no-count : p + 2 + n < p + 2 * version + 2 → recordAt bs version e p ≡ refusal 60 p
       no-count h = by-tests n _ n-is refl ∙ passed 60 p (le-ltb e (p + 2) opened) ∙ passed 60 p (le-ltb e (p + 2 + n) whole) ∙ failed-test 60 p _ (lt-ltb _ _ h)
 
-      pub count-there : p + 2 * version + 2 ≤ p + 2 + n → (count : ℕ) → count ≡ bigEndian bs (p + 2 * version) → recordAt bs version e p ≡ counted bs version p n count
+      pub count-there : p + 2 * version + 2 ≤ p + 2 + n → (count : ℕ) → count ≡ bigEndian bs (p + 2 * version) → recordAt bs version e p ≡ counted version p n count
       count-there h count count-is =
           by-tests n count n-is count-is ∙ passed 60 p (le-ltb e (p + 2) opened) ∙ passed 60 p (le-ltb e (p + 2 + n) whole) ∙ passed 60 p (le-ltb (p + 2 + n) (p + 2 * version + 2) h)
 
@@ -129,16 +107,18 @@ pub read-as : {t : Reading Symbols} (answer : Symbols) (end : ℕ) → t ≡ got
 unfolding keeping
 read-as answer end told = sym (ap (keeping countOf) told)
 
--- where a record's symbols stand, and where it ends
-pub record Extent (version e p : ℕ) (answer : Symbols) (end : ℕ) : Type 0 where
+-- where a record's symbols stand, how many there are, and where it ends
+pub record Extent (bs : List ℕ) (version e p : ℕ) (answer : Symbols) (end : ℕ) : Type 0 where
   pub onward : p + 2 ≤ end
   pub within : end ≤ e
   pub stand : answer .from ≡ p + 2 * version + 2
+  pub count : answer .count ≡ bigEndian bs (p + 2 * version)
+  pub behind : end ≡ p + 2 + bigEndian bs p
   pub room : answer .from + 2 * answer .count ≤ end
 
-pub record-extent : (bs : List ℕ) (version e p : ℕ) → Good (Extent version e p) (recordAt bs version e p)
+pub record-extent : (bs : List ℕ) (version e p : ℕ) → Good (Extent bs version e p) (recordAt bs version e p)
 unfolding recordAt
 record-extent bs version e p =
-    unless _ _ _ λ _ _. unless _ _ (ltb e (p + 2 + bigEndian bs p)) λ _ within. unless _ _ _ λ _ _. unless _ _ _ λ _ _. unless _ _ _ λ _ _.
-    unless _ _ (ltb (p + 2 + bigEndian bs p) (p + 2 * version + 2 + 2 * bigEndian bs (p + 2 * version))) λ _ room. unless _ _ _ λ _ _. unless _ _ _ λ _ _.
-    good (record { onward = omega arith; within = ltb-false _ _ within; stand = refl; room = ltb-false _ _ room })
+    unless _ _ _ λ _ _. unless _ _ (ltb e (p + 2 + bigEndian bs p)) λ _ within. unless _ _ _ λ _ _. unless _ _ _ λ _ _.
+    unless _ _ (ltb (p + 2 + bigEndian bs p) (p + 2 * version + 2 + 2 * bigEndian bs (p + 2 * version))) λ _ room. unless _ _ _ λ _ _.
+    good (record { onward = omega arith; within = ltb-false _ _ within; stand = refl; count = refl; behind = refl; room = ltb-false _ _ room })

@@ -12,7 +12,7 @@ use Rattle.limits.specs.declared.Side.the-variants.{Open, Left, Right}
 use Rattle.limits.specs.Decisions.{Decisions}
 use Rattle.reading.specs.Bytes.{bigEndian, twoBytes}
 use Rattle.machine.specs.Answers.{Answer, decisionNumbers, twoBytesEach, recordBytes, recordsBytes, answerBytes}
-use Rattle.figures.specs.AnswerBook.{rising, asked}
+use Rattle.figures.specs.AnswerBook.{rising}
 use Rattle.figures.specs.Counts.{symbolsAt, answersAt, answersOf, Writable, ReadsRuns}
 use Rattle.figures.proofs.Laying.{endAt, symbolsFrom, symbolCount, decisionsFrom, Fits, answers-none, answers-more}
 
@@ -133,17 +133,17 @@ module _ (bs more : List ℕ) (a : Answer) (writable : Writable a) (p : ℕ) (re
 
   -- it passes the tests
   record-fits : Fits bs 1 p (length bs)
-  unfolding asked
-  record-fits = record {
-    opened = omega (arith, book-long);
-    within = omega (arith, book-long, size-back);
-    counted = omega (arith, size-back, size-is);
-    askable = refl;
-    some = ne-eqb (symbolCount bs 1 p) 0 (λ none. omega (arith, count-back, writable .some));
-    holds = omega (arith, size-back, count-back, size-is);
-    even = ne-eqb ((endAt bs 1 p - decisionsFrom bs 1 p) % 2) 1 (λ odd. omega (arith, left));
-    rises = decided-rise;
-  }
+  record-fits = (
+    record {
+      opened = omega (arith, book-long);
+      within = omega (arith, book-long, size-back);
+      counted = omega (arith, size-back, size-is);
+      some = ne-eqb (symbolCount bs 1 p) 0 (λ none. omega (arith, count-back, writable .some));
+      holds = omega (arith, size-back, count-back, size-is);
+      even = ne-eqb ((endAt bs 1 p - decisionsFrom bs 1 p) % 2) 1 (λ odd. omega (arith, left));
+    },
+    decided-rise,
+  )
 
   -- the other records stand behind it
   records-behind : drop (endAt bs 1 p) bs ≡ more

@@ -1,42 +1,54 @@
--- An answer's symbols added to the totals: what the code has done after some of them, one lemma for each way through it; and what stays of a row.
+-- An answer's symbols added to the totals: what the code has done after some of them, one lemma for each way through it.
 use mathlib.Core.Bool.{Bool, true, false}
 use mathlib.Core.List.{List, [], _∷_}
-use mathlib.Core.Path.{_≡_, refl, sym, ap, ap₂, _∙_}
-use Prim.Native.Nat.{ℕ, zero, suc, _+_, _≤_, _<_}
-use native.Mathlib.Decide.{ℕ-discrete, decLt}
-use native.Mathlib.Numerals.{add-one}
+use mathlib.Core.Path.{_≡_, refl, sym, ap, _∙_}
+use Prim.Native.Nat.{ℕ, suc, _+_, _-_, _*_, _≤_, _<_}
+use native.Mathlib.Decide.{ℕ-discrete}
 use native.Mathlib.Omega.{arith}
-use borrow.Author.Tests.{le-leb, lt-leb, leb-false, eq-eqb, ne-eqb}
+use borrow.Author.Tests.{le-leb, lt-leb}
 use lib.Dec.{leb}
-use lib.ListN.{length, getD, set, drop, replicate, length-set, length-replicate, getD-replicate, List·getD-eq-default}
-use lib.Seq.{getD-set-same, getD-set-other, drop-set-lt}
-use Rattle.limits.specs.Sizes.{mostSymbols}
+use lib.ListN.{length, getD, set}
 use Rattle.reading.specs.Reading.{Reading, got, refusal, refuse_at_if_else_}
 use Rattle.reading.specs.Bytes.{bigEndian}
-use Rattle.reading.specs.Answer.{keeping}
+use Rattle.reading.specs.Answer.{keeping, nothing}
 use Rattle.reading.specs.declared.Reading.the-variants.{Got, Refusal}
-use Rattle.reading.proofs.Good.{Good, good, each, unless}
-use Rattle.reading.proofs.Keeping.{passed, failed-test}
+use Rattle.reading.proofs.Keeping.{kept-got, kept-refusal, passed, failed-test}
 use Rattle.book.specs.TreeAt.{isIn}
 use Rattle.figures.specs.Figures.{mostTotal, tallied}
-use Rattle.figures.specs.InCode.{heldOf, Holds, AddedAs}
-use Rattle.figures.proofs.Held.{held-at, held-set}
+use Rattle.figures.specs.Counts.{symbolsAt}
+use Rattle.figures.specs.InCode.{leftOf, AddedAs, TakenBack, answerOver}
+use Rattle.figures.proofs.Tallying.{isIn-same, isIn-other}
+use Rattle.figures.proofs.Counting.{WithAnswers}
+use Rattle.figures.proofs.Taking.{none-new, is-new, not-new, again-added, new-added, none-added, there-and-back}
 
--- the code's answers
-module _ {t : Reading (List ℕ)} (held : List ℕ) where
-  pub adds-refused : {c p : ℕ} → t ≡ refusal c p → AddedAs t (Refusal c p) held
-  unfolding keeping Holds
-  adds-refused e = rw e (refl, tt)
+-- the code's answers,
+module _ {t : Reading (List ℕ)} (row : List ℕ) {row′ : List ℕ} where
+  pub adds-refused : {c p : ℕ} → t ≡ refusal c p → row′ ≡ row → AddedAs t (Refusal c p) row row′
+  unfolding keeping leftOf
+  adds-refused e is = rw e (refl, is)
 
-  pub adds-got : {row : List ℕ} {p : ℕ} → t ≡ got row p → held ≡ heldOf row → AddedAs t (Got 0 p) held
-  unfolding keeping Holds
-  adds-got e is = rw e (refl, is)
+  pub adds-got : {p : ℕ} → t ≡ got row′ p → AddedAs t (Got 0 p) row row′
+  unfolding keeping leftOf
+  adds-got e = rw e (refl, refl)
+
+  -- and what they tell
+  pub added-refusal : {c q : ℕ} → AddedAs t (Refusal c q) row row′ → (t ≡ refusal c q) × (row′ ≡ row)
+  unfolding leftOf
+  added-refusal is =
+      let told = kept-refusal nothing t (is .0) in
+      (told, rw told at (is .1))
+
+  pub added-got : {v q : ℕ} → AddedAs t (Got v q) row row′ → t ≡ got row′ q
+  unfolding leftOf
+  added-got {v} {q} is =
+      let read = kept-got nothing t (is .0) in
+      let same : row′ ≡ read .0 = rw (read .1) at (is .1) in
+      read .1 ∙ ap (λ (r : List ℕ). got r q) (sym same)
 
 -- one symbol, f at p, of which k more follow: b says whether it was seen in this answer
 module _ (bs row seen : List ℕ) (k p : ℕ) where
   abbrev tested : ℕ → Reading (List ℕ)
   tested f =
-      refuse_at_if_else_ 60 p (leb mostSymbols f) λ _.
       refuse_at_if_else_ 61 p (leb (length row) f) λ _.
       refuse_at_if_else_ 62 p (leb mostTotal (getD row f 0)) λ _.
       tallied bs (set row f (suc (getD row f 0))) (f ∷ seen) k (p + 2)
@@ -48,105 +60,75 @@ module _ (bs row seen : List ℕ) (k p : ℕ) where
   unfolding tallied
   by-flag f b is told = sym (ap (λ (g : ℕ). counted g (isIn g seen)) is) ∙ ap (counted f) told
 
--- What is left of t: `left` symbols from p on, to be added to a row that the array holds, after those whose flags are set
-pub record Left (bs : List ℕ) (many : ℕ) (t : Reading (List ℕ)) (left p : ℕ) (held : List ℕ) (flags : List Bool) : Type 0 where
-  pub row : List ℕ
+-- What is left of t after i symbols of an answer: `left` from p on, to be added to the row that there is now
+pub record Left (bs row : List ℕ) (from : ℕ) (t : Reading (List ℕ)) (i left p : ℕ) (now-row : List ℕ) : Type 0 where
   pub seen : List ℕ
-  pub long : length row ≡ many
-  pub holds : held ≡ heldOf row
-  pub told : (x : ℕ) → isIn x seen ≡ getD flags x false
-  pub same : t ≡ tallied bs row seen left p
+  pub told : (x : ℕ) → isIn x seen ≡ isIn x (symbolsAt bs i from)
+  pub place : p ≡ from + 2 * i
+  pub added : WithAnswers row (answerOver bs i from) now-row
+  pub same : t ≡ tallied bs now-row seen left p
 
 -- at first all
-pub all-left : (bs row : List ℕ) (count from : ℕ) {many : ℕ} {held : List ℕ} → length row ≡ many → held ≡ heldOf row
-    → Left bs many (tallied bs row [] count from) count from held (replicate mostSymbols false)
-unfolding isIn
-all-left bs row count from long holds = record { row = row; seen = []; long = long; holds = holds; told = λ x. by x (decLt x mostSymbols); same = refl }
-  where
-    by : (x : ℕ) → Dec (x < mostSymbols) → false ≡ getD (replicate mostSymbols false) x false
-    by x (yes h) = sym (getD-replicate mostSymbols x false false h)
-    by x (no h) = sym (List·getD-eq-default (replicate mostSymbols false) false {n = x} (omega (arith, length-replicate mostSymbols false)))
+pub all-left : (bs row : List ℕ) (count from left : ℕ) → left ≡ count → Left bs row from (tallied bs row [] count from) 0 left from row
+unfolding symbolsAt
+all-left bs row count from left all = record {
+  seen = [];
+  told = λ x. refl;
+  place = omega arith;
+  added = none-added bs row from;
+  same = ap (λ (k : ℕ). tallied bs row [] k from) (sym all);
+}
 
-module _ {bs : List ℕ} {many left p : ℕ} {t : Reading (List ℕ)} {held : List ℕ} {flags : List Bool} (is : Left bs many t left p held flags) (long : length flags ≡ mostSymbols) where
+module _ {bs row : List ℕ} {from : ℕ} {t : Reading (List ℕ)} {i left p : ℕ} {row′ : List ℕ} (is : Left bs row from t i left p row′) where
   -- at last none
-  pub none-left : left ≡ 0 → AddedAs t (Got 0 p) held
+  pub none-left : left ≡ 0 → AddedAs t (Got 0 p) row row′
   unfolding tallied
-  none-left none = adds-got held (is .same ∙ ap (λ (k : ℕ). tallied bs (is .row) (is .seen) k p) none) (is .holds)
+  none-left none = adds-got row (is .same ∙ ap (λ (k : ℕ). tallied bs row′ (is .seen) k p) none)
 
   -- one more, f
-  module _ (k : ℕ) (more : left ≡ suc k) (f : ℕ) (f-is : f ≡ bigEndian bs p) where
-    by-tests : (b : Bool) → getD flags f false ≡ b → t ≡ counted bs (is .row) (is .seen) k p f b
-    by-tests b flag = is .same ∙ ap (λ (j : ℕ). tallied bs (is .row) (is .seen) j p) more ∙ by-flag bs (is .row) (is .seen) k p f b f-is (is .told f ∙ flag)
+  module _ (k i′ : ℕ) (more : left ≡ suc k) (next : i′ ≡ suc i) (f : ℕ) (f-is : f ≡ bigEndian bs p) where
+    by-tests : (b : Bool) → isIn f (symbolsAt bs i from) ≡ b → t ≡ counted bs row′ (is .seen) k p f b
+    by-tests b flag = is .same ∙ ap (λ (j : ℕ). tallied bs row′ (is .seen) j p) more ∙ by-flag bs row′ (is .seen) k p f b f-is (is .told f ∙ flag)
 
-    -- there is no such symbol
-    pub no-symbol : mostSymbols ≤ f → AddedAs t (Refusal 60 p) held
-    no-symbol h = adds-refused held (by-tests false (List·getD-eq-default flags false (omega arith)) ∙ failed-test 60 p _ (le-leb mostSymbols f h))
+    -- it stands before
+    pub seen-before : isIn f (symbolsAt bs i from) ≡ true → Left bs row from t i′ k (p + 2) row′
+    seen-before flag = record {
+      seen = is .seen;
+      told = λ x. is .told x ∙ sym (none-new bs i i′ from p f next (is .place) f-is flag x);
+      place = omega (arith, is .place);
+      added = again-added bs i i′ from p f next (is .place) f-is flag (is .added);
+      same = by-tests true flag;
+    }
 
-    -- it was seen before
-    pub seen-before : getD flags f false ≡ true → Left bs many t k (p + 2) held flags
-    seen-before flag = record { row = is .row; seen = is .seen; long = is .long; holds = is .holds; told = is .told; same = by-tests true flag }
+    module _ (flag : isIn f (symbolsAt bs i from) ≡ false) where
+      -- the row ends before it; what was added is taken back
+      pub past-row : (row″ : List ℕ) → length row′ ≤ f → TakenBack row′ (answerOver bs i from) row″ → AddedAs t (Refusal 61 p) row row″
+      past-row row″ h back = adds-refused row (by-tests false flag ∙ failed-test 61 p _ (le-leb (length row′) f h)) (there-and-back (answerOver bs i from) row row′ row″ (is .added) back)
 
-    module _ (small : f < mostSymbols) (flag : getD flags f false ≡ false) where
-      -- the row ends before it
-      pub past-row : many ≤ f → AddedAs t (Refusal 61 p) held
-      past-row h = adds-refused held (by-tests false flag ∙ passed 60 p (lt-leb mostSymbols f small) ∙ failed-test 61 p _ (le-leb (length (is .row)) f (omega (arith, is .long))))
+      module _ (inside : f < length row′) (total : ℕ) (total-is : total ≡ getD row′ f 0) where
+        to-total : t ≡ refuse_at_if_else_ 62 p (leb mostTotal (getD row′ f 0)) (λ _. tallied bs (set row′ f (suc (getD row′ f 0))) (f ∷ is .seen) k (p + 2))
+        to-total = by-tests false flag ∙ passed 61 p (lt-leb (length row′) f inside)
 
-      module _ (inside : f < many) (total : ℕ) (total-is : total ≡ getD held f 0) where
-        at-row : f < length (is .row)
-        at-row = omega (arith, is .long)
-
-        total-row : total ≡ getD (is .row) f 0
-        total-row = total-is ∙ ap (λ (l : List ℕ). getD l f 0) (is .holds) ∙ held-at (is .row) f small at-row
-
-        to-total : t ≡ refuse_at_if_else_ 62 p (leb mostTotal (getD (is .row) f 0)) (λ _. tallied bs (set (is .row) f (suc (getD (is .row) f 0))) (f ∷ is .seen) k (p + 2))
-        to-total = by-tests false flag ∙ passed 60 p (lt-leb mostSymbols f small) ∙ passed 61 p (lt-leb (length (is .row)) f at-row)
-
-        -- its total cannot grow
-        pub past-bits : 4294967295 ≤ total → AddedAs t (Refusal 62 p) held
+        -- its total cannot grow; what was added is taken back
+        pub past-bits : (row″ : List ℕ) → 4294967295 ≤ total → TakenBack row′ (answerOver bs i from) row″ → AddedAs t (Refusal 62 p) row row″
         unfolding mostTotal
-        past-bits h = adds-refused held (to-total ∙ failed-test 62 p _ (le-leb 4294967295 (getD (is .row) f 0) (omega (arith, total-row))))
+        past-bits row″ h back =
+            adds-refused row (to-total ∙ failed-test 62 p _ (le-leb 4294967295 (getD row′ f 0) (omega (arith, total-is)))) (there-and-back (answerOver bs i from) row row′ row″ (is .added) back)
 
         -- it counts
-        pub counts : total < 4294967295 → Left bs many t k (p + 2) (set held f (total + 1)) (set flags f true)
+        pub counts : total < 4294967295 → Left bs row from t i′ k (p + 2) (set row′ f (total + 1))
         unfolding mostTotal isIn
-        counts h = record {
-          row = set (is .row) f (suc (getD (is .row) f 0));
+        counts h = rw grown (record {
           seen = f ∷ is .seen;
-          long = length-set (is .row) f _ ∙ is .long;
-          holds = ap₂ (λ (l : List ℕ) (v : ℕ). set l f v) (is .holds) (add-one total ∙ ap suc total-row) ∙ held-set (is .row) f _ small at-row;
           told = λ x. by x (ℕ-discrete x f);
-          same = to-total ∙ passed 62 p (lt-leb 4294967295 (getD (is .row) f 0) (omega (arith, total-row)));
-        }
+          place = omega (arith, is .place);
+          added = new-added bs i i′ from p f next (is .place) f-is flag row′ (is .added) inside;
+          same = to-total ∙ passed 62 p (lt-leb 4294967295 (getD row′ f 0) (omega (arith, total-is)));
+        })
           where
-            by : (x : ℕ) → Dec (x ≡ f) → isIn x (f ∷ is .seen) ≡ getD (set flags f true) x false
-            by x (yes e) = simp (isIn, eq-eqb x f e) (sym (ap (λ (j : ℕ). getD (set flags f true) j false) e ∙ getD-set-same flags f true false (omega arith)))
-            by x (no n) = simp (isIn, ne-eqb x f n) (is .told x ∙ sym (getD-set-other flags f x true false n))
+            grown : total + 1 ≡ suc (getD row′ f 0)
+            grown = omega (arith, total-is)
 
--- what stays of a row: how long it is, and what stands past the symbols that there can be
-pub record Stays (row row′ : List ℕ) : Type 0 where
-  pub long : length row′ ≡ length row
-  pub behind : drop mostSymbols row′ ≡ drop mostSymbols row
-
-pub stays : {row : List ℕ} → Stays row row
-stays = record { long = refl; behind = refl }
-
-pub stays-then : {row row′ row″ : List ℕ} → Stays row row′ → Stays row′ row″ → Stays row row″
-stays-then one other = record { long = other .long ∙ one .long; behind = other .behind ∙ one .behind }
-
--- whatever is added to a row leaves so much of it
-abbrev pub Staying : List ℕ → Reading (List ℕ) → Type 0
-Staying row t = Good (λ row′ q. Stays row row′) t
-
-counted-stays : (bs row seen : List ℕ) (k p f : ℕ) (b : Bool) → Staying row (tallied bs row seen k (p + 2))
-    → Staying (set row f (suc (getD row f 0))) (tallied bs (set row f (suc (getD row f 0))) (f ∷ seen) k (p + 2)) → Staying row (counted bs row seen k p f b)
-counted-stays bs row seen k p f true before now = before
-counted-stays bs row seen k p f false before now =
-    unless _ _ (leb mostSymbols f) λ _ small. unless _ _ _ λ _ _. unless _ _ _ λ _ _.
-    each (λ row′ q. stays-then (record { long = length-set row f _; behind = drop-set-lt mostSymbols row f _ (leb-false mostSymbols f small) })) now
-
-pub tallied-stays : (bs row seen : List ℕ) (k p : ℕ) → Staying row (tallied bs row seen k p)
-unfolding tallied
-tallied-stays bs row seen zero p = good stays
-tallied-stays bs row seen (suc k) p =
-    let f = bigEndian bs p in
-    counted-stays bs row seen k p f (isIn f seen) (tallied-stays bs row seen k (p + 2)) (tallied-stays bs (set row f (suc (getD row f 0))) (f ∷ seen) k (p + 2))
+            by : (x : ℕ) → Dec (x ≡ f) → isIn x (f ∷ is .seen) ≡ isIn x (symbolsAt bs i′ from)
+            by x (yes e) = isIn-same (is .seen) e ∙ sym (is-new bs i i′ from p f next (is .place) f-is e)
+            by x (no n) = isIn-other (is .seen) n ∙ is .told x ∙ sym (not-new bs i i′ from p f next (is .place) f-is n)

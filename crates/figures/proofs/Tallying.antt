@@ -2,14 +2,13 @@
 use mathlib.Core.Bool.{Bool, true, false}
 use mathlib.Core.List.{List, [], _∷_}
 use mathlib.Core.Path.{_≡_, refl, ap, _∙_}
-use Prim.Native.Nat.{ℕ, zero, suc, _+_, _≤_, _<_}
+use Prim.Native.Nat.{ℕ, zero, suc, _+_, _*_, _≤_, _<_}
 use native.Mathlib.Decide.{ℕ-discrete}
 use native.Mathlib.Omega.{arith}
 use borrow.Author.Tests.{leb-false, lt-leb, eq-eqb, ne-eqb}
 use lib.Dec.{leb}
 use lib.ListN.{length, getD, set, length-set}
 use lib.Seq.{getD-set-same, getD-set-other}
-use Rattle.limits.specs.Sizes.{mostSymbols}
 use Rattle.reading.specs.Reading.{Reading}
 use Rattle.reading.specs.Bytes.{bigEndian}
 use Rattle.book.specs.TreeAt.{isIn}
@@ -22,9 +21,9 @@ pub record Added (row : List ℕ) (many : ℕ → ℕ) (row′ : List ℕ) : Typ
   pub long : length row′ ≡ length row
   pub total : (f : ℕ) → f < length row → getD row′ f 0 ≡ getD row f 0 + many f
 
--- a row that has room for so many: each symbol to be counted is one of document 01's and has a total, which stays within 32 bits
+-- a row that has room for so many: each symbol to be counted has a total, which stays within 32 bits
 abbrev RoomAt : List ℕ → ℕ → ℕ → Type 0
-RoomAt row f n = (f < mostSymbols) × (f < length row) × (getD row f 0 + n ≤ mostTotal)
+RoomAt row f n = (f < length row) × (getD row f 0 + n ≤ mostTotal)
 
 abbrev pub Room : List ℕ → (ℕ → ℕ) → Type 0
 Room row many = (f : ℕ) → 0 < many f → RoomAt row f (many f)
@@ -44,7 +43,7 @@ pub record Sum (all some more : ℕ → ℕ) : Type 0 where
 pub room-first : (row : List ℕ) {some more all : ℕ → ℕ} → Sum all some more → Room row all → Room row some
 room-first row sum room f h =
     let there = room f (omega (arith, sum .at f)) in
-    (there .0, there .1, omega (arith, there .2, sum .at f))
+    (there .0, omega (arith, there .1, sum .at f))
 
 -- so many are added, and then so many more
 module _ {row mid : List ℕ} {some more all : ℕ → ℕ} (one : Added row some mid) (sum : Sum all some more) where
@@ -58,7 +57,7 @@ module _ {row mid : List ℕ} {some more all : ℕ → ℕ} (one : Added row som
   pub room-others : Room row all → Room mid more
   room-others room f h =
       let there = room f (omega (arith, sum .at f)) in
-      (there .0, omega (arith, there .1, one .long), omega (arith, there .2, one .total f (there .1), sum .at f))
+      (omega (arith, there .0, one .long), omega (arith, there .1, one .total f (there .0), sum .at f))
 
   pub room-all : Room row some → Room mid more → Room row all
   room-all first others f h = by (more f) refl
@@ -66,16 +65,16 @@ module _ {row mid : List ℕ} {some more all : ℕ → ℕ} (one : Added row som
       by : (n : ℕ) → more f ≡ n → RoomAt row f (all f)
       by zero is =
           let there = first f (omega (arith, sum .at f)) in
-          (there .0, there .1, omega (arith, there .2, sum .at f))
+          (there .0, omega (arith, there .1, sum .at f))
       by (suc n) is =
           let there = others f (omega arith) in
-          let in-row : f < length row = omega (arith, there .1, one .long) in
-          (there .0, in-row, omega (arith, there .2, one .total f in-row, sum .at f))
+          let in-row : f < length row = omega (arith, there .0, one .long) in
+          (in-row, omega (arith, there .1, one .total f in-row, sum .at f))
 
-  -- so reading that adds the others adds all of them
-  added-behind : {r : Reading (List ℕ)} → Room row some → Exactly (Room mid more) (λ row′ q. Added mid more row′) r
-      → Exactly (Room row all) (λ row′ q. Added row all row′) r
-  added-behind first = so (room-all first) room-others (λ row′ q room. added-more)
+  -- so reading that adds the others, up to e, adds all of them
+  added-behind : {r : Reading (List ℕ)} {e e′ : ℕ} → e ≡ e′ → Room row some → Exactly (Room mid more) (λ row′ q. Added mid more row′ × (q ≡ e)) r
+      → Exactly (Room row all) (λ row′ q. Added row all row′ × (q ≡ e′)) r
+  added-behind ends first = so (room-all first) room-others (λ row′ q room (added, end). (added-more added, end ∙ ends))
 
 -- ---- the symbols of one answer
 
@@ -99,11 +98,11 @@ once symbols more = record { at = λ f. by f (isIn f symbols) refl }
     by f false is = simp (howMany, is, newly) (omega arith)
 
 -- a symbol is the first one, or it has to stand among the others
-isIn-same : {f g : ℕ} (symbols : List ℕ) → f ≡ g → isIn f (g ∷ symbols) ≡ true
+pub isIn-same : {f g : ℕ} (symbols : List ℕ) → f ≡ g → isIn f (g ∷ symbols) ≡ true
 unfolding isIn
 isIn-same {f} {g} symbols same = simp (isIn, eq-eqb f g same)
 
-isIn-other : {f g : ℕ} (symbols : List ℕ) → (f ≡ g → ⊥) → isIn f (g ∷ symbols) ≡ isIn f symbols
+pub isIn-other : {f g : ℕ} (symbols : List ℕ) → (f ≡ g → ⊥) → isIn f (g ∷ symbols) ≡ isIn f symbols
 unfolding isIn
 isIn-other {f} {g} symbols other = simp (isIn, ne-eqb f g other)
 
@@ -148,12 +147,12 @@ module _ (g : ℕ) (row : List ℕ) (there : g < length row) where
           rw (more, isIn-same [] same) (omega arith)
       by f (no other) = rw (getD-set-other row g f (suc (getD row g 0)) 0 other, isIn-other [] other) (omega arith)
 
-  one-room : g < mostSymbols → getD row g 0 < mostTotal → Room row (adds [] (g ∷ []))
+  one-room : getD row g 0 < mostTotal → Room row (adds [] (g ∷ []))
   unfolding newly isIn
-  one-room known small f h = by (ℕ-discrete f g) h
+  one-room small f h = by (ℕ-discrete f g) h
     where
       by : Dec (f ≡ g) → 0 < adds [] (g ∷ []) f → RoomAt row f (adds [] (g ∷ []) f)
-      by (yes same) h = (rw same known, rw same there, rw (isIn-same [] same, same) (omega arith))
+      by (yes same) h = (rw same there, rw (isIn-same [] same, same) (omega arith))
       by (no other) h =
           let none : adds [] (g ∷ []) f ≡ 0 = rw (isIn-other [] other) refl in
           absurd (omega arith)
@@ -164,26 +163,26 @@ unfolding newly
 room-new g row seen rest new room =
     let counts : adds seen (g ∷ rest) g ≡ 1 = rw (new, isIn-same rest refl) refl in
     let there = room g (omega (arith, counts)) in
-    (there .0, there .1, omega (arith, there .2, counts))
+    (there .0, omega (arith, there .1, counts))
 
 module _ (bs : List ℕ) where
   -- the symbols from p on, k of them, each counted once
   pub tallied-added : (row seen : List ℕ) (k p : ℕ)
-      → Exactly (Room row (adds seen (symbolsAt bs k p))) (λ row′ q. Added row (adds seen (symbolsAt bs k p)) row′) (tallied bs row seen k p)
+      → Exactly (Room row (adds seen (symbolsAt bs k p))) (λ row′ q. Added row (adds seen (symbolsAt bs k p)) row′ × (q ≡ p + 2 * k)) (tallied bs row seen k p)
   unfolding tallied symbolsAt isIn
   tallied-added row seen zero p =
-      read {a = row} (λ f h. absurd (omega (arith, newly-none (isIn f seen)))) (record { long = refl; total = λ f h. rw (newly-none (isIn f seen)) (omega arith) })
+      read {a = row} {p = p} (λ f h. absurd (omega (arith, newly-none (isIn f seen)))) (record { long = refl; total = λ f h. rw (newly-none (isIn f seen)) (omega arith) }, omega arith)
   tallied-added row seen (suc k) p =
       let g = bigEndian bs p in
       let rest = symbolsAt bs k (p + 2) in
       let total = getD row g 0 in
+      let further : p + 2 + 2 * k ≡ p + 2 * suc k = omega arith in
       either (isIn g seen)
       (λ new.
       let test = room-new g row seen rest new in
-      unless _ _ (leb mostSymbols g) (omega arith) (λ room. lt-leb mostSymbols g (test room .0)) λ _ known.
-      unless _ _ (leb (length row) g) (omega arith) (λ room. lt-leb (length row) g (test room .1)) λ _ inside.
-      unless _ _ (leb mostTotal total) (omega arith) (λ room. lt-leb mostTotal total (omega (arith, test room .2))) λ _ small.
+      unless _ _ (leb (length row) g) (omega arith) (λ room. lt-leb (length row) g (test room .0)) λ _ inside.
+      unless _ _ (leb mostTotal total) (omega arith) (λ room. lt-leb mostTotal total (omega (arith, test room .1))) λ _ small.
       let there = leb-false (length row) g inside in
-      added-behind (one-added g row there) (sum-new g seen rest new) (one-room g row there (leb-false mostSymbols g known) (leb-false mostTotal total small))
+      added-behind (one-added g row there) (sum-new g seen rest new) further (one-room g row there (leb-false mostTotal total small))
       (tallied-added (set row g (suc total)) (g ∷ seen) k (p + 2)))
-      (λ again. added-behind (added-none row) (sum-seen g seen rest again) (room-none row) (tallied-added row seen k (p + 2)))
+      (λ again. added-behind (added-none row) (sum-seen g seen rest again) further (room-none row) (tallied-added row seen k (p + 2)))

@@ -5,12 +5,8 @@ use mathlib.Core.List.{List}
 use Prim.Native.Nat.{ℕ, zero, suc, _+_, _-_, _*_, _/_, _%_}
 use lib.Dec.{leb, ltb, eqb}
 use Rattle.limits.specs.Sizes.{mostChoices}
-use Rattle.reading.specs.Reading.{Reading, got, refuse_at_if_else_}
+use Rattle.reading.specs.Reading.{Reading, got, _then_, refuse_at_if_else_}
 use Rattle.reading.specs.Bytes.{bigEndian}
-
--- request L3: "A run takes a row of up to 32 lengths"
-unfoldable pub mostQuestions : ℕ
-mostQuestions = 32
 
 -- where a record's symbols stand, and how many there are
 pub record Symbols : Type 0 where
@@ -31,15 +27,9 @@ module _ (bs : List ℕ) where
         ]
       ]
 
-  -- The question's number, which "also stands as two bytes after each record's length" in version 2: whether there can be one
-  unfoldable pub asked : ℕ → ℕ → Bool
-  asked version p = elim (eqb version 2) [
-    | false ↦ true
-    | true ↦ ltb (bigEndian bs (p + 2)) mostQuestions
-  ]
-
-  -- A record at p, in a book that ends at e. "two-byte length of the rest, two-byte symbol count, each node's symbol .., two bytes each, then for each
-  -- decided choice .. two bytes". A value has one symbol at least. The symbol count stands at q, behind the question's number in version 2.
+  -- A record at p, in a book that ends at e, up to its symbols. "two-byte length of the rest, two-byte symbol count, each node's symbol .., two bytes each,
+  -- then for each decided choice .. two bytes". A value has one symbol at least. The symbol count stands at q, in version 2 behind the question's number
+  -- ("also stands as two bytes after each record's length"), which may be any.
   unfoldable pub recordAt : ℕ → ℕ → ℕ → Reading Symbols
   recordAt version e p =
       let end = p + 2 + bigEndian bs p in
@@ -49,9 +39,18 @@ module _ (bs : List ℕ) where
       refuse 60 at p if ltb e (p + 2) else λ _.
       refuse 60 at p if ltb e end else λ _.
       refuse 60 at p if ltb end (q + 2) else λ _.
-      refuse 60 at p if not (asked version p) else λ _.
       refuse 60 at p if eqb count 0 else λ _.
       refuse 60 at p if ltb end decisions else λ _.
       refuse 60 at p if eqb ((end - decisions) % 2) 1 else λ _.
-      refuse 60 at p if not (rising ((end - decisions) / 2) 0 decisions) else λ _.
       got (record { count = count; from = q + 2 }) end
+
+  -- its decisions, which stand from q, behind its symbols, to its end
+  abbrev pub decided : ℕ → ℕ → Bool
+  decided end q = rising ((end - q) / 2) 0 q
+
+  -- a record with its decisions
+  unfoldable pub wholeAt : ℕ → ℕ → ℕ → Reading Symbols
+  wholeAt version e p =
+      recordAt version e p then λ answer end.
+      refuse 60 at p if not (decided end (answer .from + 2 * answer .count)) else λ _.
+      got answer end

@@ -11,7 +11,7 @@ use Rattle.reading.specs.Reading.{got, refusal}
 use Rattle.reading.specs.Bytes.{bigEndian, twoBytes}
 use Rattle.book.specs.TreeAt.{isIn}
 use Rattle.machine.specs.Answers.{Answer, answerBytes}
-use Rattle.figures.specs.AnswerBook.{recordAt}
+use Rattle.figures.specs.AnswerBook.{wholeAt}
 use Rattle.figures.specs.Figures.{bookEnd, figures}
 
 -- in how many of these answers, each given by its symbols, symbol f stands
@@ -30,7 +30,7 @@ module _ (bs : List ℕ) where
   answersAt zero version e p = []
   answersAt (suc bound) version e p = elim (ltb p e) [
     | false ↦ []
-    | true ↦ elim (recordAt bs version e p) [
+    | true ↦ elim (wholeAt bs version e p) [
       | refusal c q ↦ []
       | got answer end ↦ symbolsAt (answer .count) (answer .from) ∷ answersAt bound version e end
     ]
@@ -79,6 +79,15 @@ abbrev pub AnyOrder : Type 0
 AnyOrder = (books others : List (List ℕ)) (row : List ℕ) → Perm books others
     → figures (laid books) row .number ≡ 0 → figures (laid others) row ≡ figures (laid books) row
 
+-- and every buffer of bytes that is not refused is one of books that are laid: those found in it
+abbrev pub FoundAreLaid : Type 0
+FoundAreLaid = (bs row : List ℕ) → ((i : ℕ) → getD bs i 0 < 256) → figures bs row .number ≡ 0 → laid (booksIn bs) ≡ bs
+
+-- so of each such buffer the books may be laid in any order
+abbrev pub AnyOrderFound : Type 0
+AnyOrderFound = (bs row : List ℕ) (others : List (List ℕ)) → ((i : ℕ) → getD bs i 0 < 256) → Perm (booksIn bs) others
+    → figures bs row .number ≡ 0 → figures (laid others) row ≡ figures bs row
+
 -- an answer that a run can write: a value has one symbol at least, and there are no more than 256 choices to decide. How large its numbers are is not asked:
 -- `twoBytes` and `bigEndian` agree on any.
 pub record Writable (a : Answer) : Type 0 where
@@ -87,4 +96,5 @@ pub record Writable (a : Answer) : Type 0 where
 
 -- what a run writes is read for its figures: the symbols of each answer, so that no record of it is refused
 abbrev pub ReadsRuns : Type 0
-ReadsRuns = (answers : List Answer) → ((a : Answer) → List·Mem a answers → Writable a) → answersOf (answerBytes answers) ≡ map (λ (a : Answer). a .symbols) answers
+ReadsRuns = (answers : List Answer) → ((a : Answer) → List·Mem a answers → Writable a)
+    → answersOf (answerBytes answers) ≡ map (λ (a : Answer). a .symbols) answers

@@ -4,11 +4,10 @@ use mathlib.Core.List.{List, [], _∷_}
 use Prim.Native.Nat.{ℕ, zero, suc, _+_, _*_}
 use lib.Dec.{leb, ltb, eqb}
 use lib.ListN.{length, getD, set}
-use Rattle.limits.specs.Sizes.{mostSymbols}
 use Rattle.reading.specs.Reading.{Reading, got, refusal, _then_, refuse_at_if_else_}
 use Rattle.reading.specs.Bytes.{bigEndian}
 use Rattle.book.specs.TreeAt.{isIn}
-use Rattle.figures.specs.AnswerBook.{Symbols, recordAt}
+use Rattle.figures.specs.AnswerBook.{recordAt, decided}
 
 -- "a total past 32 bits"
 unfoldable pub mostTotal : ℕ
@@ -16,7 +15,7 @@ mostTotal = 4294967295
 
 module _ (bs : List ℕ) where
   -- an answer's symbols, k of them from p on, added to the totals of the row; one that is in `seen`, those before it in this answer, counts no more.
-  -- "61 a symbol past the row, 62 a total past 32 bits"; document 01 has 1,024 symbols, so another number is not in its layout
+  -- "61 a symbol past the row, 62 a total past 32 bits"
   unfoldable pub tallied : List ℕ → List ℕ → ℕ → ℕ → Reading (List ℕ)
   tallied row seen zero p = got row p
   tallied row seen (suc k) p =
@@ -25,11 +24,23 @@ module _ (bs : List ℕ) where
       elim (isIn f seen) [
         | true ↦ tallied row seen k (p + 2)
         | false ↦
-            refuse 60 at p if leb mostSymbols f else λ _.
             refuse 61 at p if leb (length row) f else λ _.
             refuse 62 at p if leb mostTotal total else λ _.
             tallied (set row f (suc total)) (f ∷ seen) k (p + 2)
       ]
+
+  -- the symbols of a record at p, k of them from `from` on, and then its decisions; it ends at `end`
+  unfoldable pub symbolsAdded : List ℕ → ℕ → ℕ → ℕ → ℕ → Reading (List ℕ)
+  symbolsAdded row k from p end =
+      tallied row [] k from then λ row′ q.
+      refuse 60 at p if not (decided bs end q) else λ _.
+      got row′ end
+
+  -- a record at p, in reading order
+  unfoldable pub answerAt : ℕ → ℕ → List ℕ → ℕ → Reading (List ℕ)
+  answerAt version e row p =
+      recordAt bs version e p then λ answer end.
+      symbolsAdded row (answer .count) (answer .from) p end
 
   -- the records of a book from p to its end e; the first number bounds how many there can be
   unfoldable pub recordsAt : ℕ → ℕ → ℕ → List ℕ → ℕ → Reading (List ℕ)
@@ -37,9 +48,8 @@ module _ (bs : List ℕ) where
   recordsAt (suc bound) version e row p = elim (ltb p e) [
     | false ↦ got row p
     | true ↦
-        recordAt bs version e p then λ answer end.
-        tallied row [] (answer .count) (answer .from) then λ row′ _.
-        recordsAt bound version e row′ end
+        answerAt version e row p then λ row′ q.
+        recordsAt bound version e row′ q
   ]
 
   -- "each opened by a four-byte length": where the book at p ends by it

@@ -1,4 +1,4 @@
 pub mod AnswerBook
 pub mod Figures
-pub mod InCode
 pub mod Counts
+pub mod InCode

@@ -5,17 +5,14 @@ ghost use lib.ListN.{length};
 ghost use Rattle.reading.specs.declared.Reading.the-variants.{Refusal};
 ghost use Rattle.reading.specs.Answer.{readingOf, keeping};
 ghost use Rattle.figures.specs.AnswerBook.{recordAt};
-ghost use Rattle.figures.specs.AnswerBook.{rising as risingIn, asked as askedIn};
+ghost use Rattle.figures.specs.AnswerBook.{rising as risingIn};
 ghost use Rattle.figures.specs.InCode.{countOf};
 use limits::Limits;
 use reading::Reading;
 use reading::number;
 
-// How many questions a run of request L3 takes at the most.
-const QUESTIONS: usize = 32;
-
 // Whether the k decision numbers from p on are of choices that there can be, in rising order.
-fn rising(books: &[u8], k: usize, from: usize) -> bool
+pub(crate) fn rising(books: &[u8], k: usize, from: usize) -> bool
     requires { ⌜ from + 2 * k ≤ length (now books) ⌝ }
     ensures { λ r. ⌜ r ≡ risingIn (now (books .entry)) k 0 from ⌝ }
 {
@@ -37,24 +34,13 @@ fn rising(books: &[u8], k: usize, from: usize) -> bool
     true
 }
 
-fn refused(place: usize) -> Reading
+pub(crate) fn refused(place: usize) -> Reading
     ensures { λ r. ⌜ r ≡ Refusal 60 place ⌝ }
 {
     Reading::Refusal { number: 60, place }
 }
 
-// Whether a record of version 2 at p has a question's number that there can be.
-fn asked(books: &[u8], version: usize, p: usize) -> bool
-    requires { ⌜ p ≤ length (now books) ⌝ }
-    ensures { λ r. ⌜ r ≡ askedIn (now (books .entry)) version p ⌝ }
-{
-    if version != 2 {
-        return true;
-    }
-    number(books, p + 2) < QUESTIONS
-}
-
-// A record at p of a book that ends at e: how many symbols it has, and the place behind it. They stand behind the symbol count.
+// A record at p of a book that ends at e, up to its symbols: how many it has, and the place behind the record. They stand behind the symbol count.
 pub(crate) fn read_record(books: &[u8], version: usize, e: usize, p: usize) -> Reading
     requires { ⌜ (p < e) × (e ≤ length (now books)) × (0 < version) × (version ≤ 2) ⌝ }
     ensures { λ r. ⌜ readingOf r ≡ keeping countOf (recordAt (now (books .entry)) version e p) ⌝ }
@@ -70,9 +56,6 @@ pub(crate) fn read_record(books: &[u8], version: usize, e: usize, p: usize) -> R
     if end < at + 2 {
         return refused(p);
     }
-    if !asked(books, version, p) {
-        return refused(p);
-    }
     let count = number(books, at);
     if count == 0 {
         return refused(p);
@@ -83,9 +66,6 @@ pub(crate) fn read_record(books: &[u8], version: usize, e: usize, p: usize) -> R
     }
     let left = end - decisions;
     if left % 2 == 1 {
-        return refused(p);
-    }
-    if !rising(books, left / 2, decisions) {
         return refused(p);
     }
     Reading::Got {

@@ -1,53 +1,20 @@
 -- `read_record` meets its contract: the tests in the order of the definition.
-use mathlib.Core.Path.{_≡_, refl, sym, _∙_}
-use Prim.Native.Nat.{ℕ, _+_, _*_}
+use mathlib.Core.Path.{_≡_, _∙_}
 use borrow.Author.Needs.{needs}
-use borrow.Author.Tests.{not-true, not-false}
-use Rattle.reading.specs.Bytes.{bigEndian}
 use Rattle.figures.specs.AnswerBook.{recordAt}
-use Rattle.figures.proofs.RecordWays.{
-  length-cut,
-  record-cut,
-  no-count,
-  count-there,
-  counted,
-  not-asked,
-  no-symbol,
-  symbols-cut,
-  symbols-there,
-  decided,
-  decision-cut,
-  not-rising,
-  record-read,
-  refused-as,
-  read-as,
-}
+use Rattle.figures.proofs.RecordWays.{length-cut, record-cut, no-count, count-there, counted, no-symbol, symbols-cut, decision-cut, record-read, refused-as, read-as}
 use Rattle.figures.proofs.record.read_record.Statement.{statement}
 use Rattle.figures.proofs.record.read_record.Tie as tie
 
 -- the record, once it is known to have a symbol count
-at-count : (c : tie.After-asked) (count : ℕ)
+at-count : (c : tie.After-number2)
     → let a = c .before .before .before .before .before .before .args in
-    let n = c .before .before .before .number .result in
-    count ≡ bigEndian (a .books .now) (a .p + 2 * a .version) → recordAt (a .books .now) (a .version) (a .e) (a .p) ≡ counted (a .books .now) (a .version) (a .p) n count
+    recordAt (a .books .now) (a .version) (a .e) (a .p) ≡ counted (a .version) (a .p) (c .before .before .before .number .result) (c .number2 .result)
 at-count c =
     let n = c .before .before .before in
     let a = n .before .before .before .args in
     count-there (a .books .now) (a .version) (a .e) (a .p) (n .number .result) (n .number .ensures .0) (n .before .if1 .left) (c .before .before .if2 .left) (c .before .if3 .left)
-
--- and once its symbols are known to stand there
-at-decisions : (c : tie.Else6)
-    → let n = c .before .before .before .before .before .before .before .number .result in
-    let a = c .before .before .before .before .before .before .before .before .before .before .args in
-    recordAt (a .books .now) (a .version) (a .e) (a .p) ≡ decided (a .books .now) (a .version) (a .p) n (c .before .before .number2 .result)
-at-decisions c =
-    let count = c .before .before in
-    let question = count .before .before in
-    let n = question .before .before .before in
-    let a = n .before .before .before .args in
-    at-count question (count .number2 .result) (count .number2 .ensures .0)
-    ∙ symbols-there (a .books .now) (a .version) (a .p) (n .number .result) (count .number2 .result)
-    (sym (question .asked .ensures) ∙ not-false (question .asked .result) (count .before .if4 .left)) (c .before .if5 .left) (c .if6 .left)
+    (c .number2 .result) (c .number2 .ensures .0)
 
 add-if1 : tie.Need-add-if1
 add-if1 c = search needs
@@ -102,37 +69,19 @@ returns-3 c =
     refused-as (c .refused3 .result) (c .refused3 .ensures)
     (no-count (a .books .now) (a .version) (a .e) (a .p) (n .number .result) (n .number .ensures .0) (opened .if1 .left) (whole .if2 .left) (c .before .if3 .taken))
 
-asked-requires : tie.Need-asked-requires
-asked-requires c κs = search needs
+number-requires-2 : tie.Need-number-requires-2
+number-requires-2 c κs = search needs
 
 refused-requires-4 : tie.Need-refused-requires-4
 refused-requires-4 c κs = search needs
 
 returns-4 : tie.Need-returns-4
 returns-4 c =
-    let question = c .before .before in
-    let n = question .before .before .before in
+    let count = c .before .before in
+    let n = count .before .before .before in
     let a = n .before .before .before .args in
     refused-as (c .refused4 .result) (c .refused4 .ensures)
-    (at-count question _ refl ∙ not-asked (a .books .now) (a .version) (a .p) (n .number .result) (bigEndian (a .books .now) (a .p + 2 * a .version))
-    (sym (question .asked .ensures) ∙ not-true (question .asked .result) (c .before .if4 .taken)))
-
-number-requires-2 : tie.Need-number-requires-2
-number-requires-2 c κs = search needs
-
-refused-requires-5 : tie.Need-refused-requires-5
-refused-requires-5 c κs = search needs
-
-returns-5 : tie.Need-returns-5
-returns-5 c =
-    let count = c .before .before in
-    let question = count .before .before in
-    let n = question .before .before .before in
-    let a = n .before .before .before .args in
-    refused-as (c .refused5 .result) (c .refused5 .ensures)
-    (at-count question (count .number2 .result) (count .number2 .ensures .0)
-    ∙ no-symbol (a .books .now) (a .version) (a .p) (n .number .result) (count .number2 .result)
-    (sym (question .asked .ensures) ∙ not-false (question .asked .result) (count .before .if4 .left)) (c .before .if5 .taken))
+    (at-count count ∙ no-symbol (a .version) (a .p) (n .number .result) (count .number2 .result) (c .before .if4 .taken))
 
 add-decisions : tie.Need-add-decisions
 add-decisions c = search needs
@@ -143,56 +92,34 @@ mul-decisions c = search needs
 add-decisions-2 : tie.Need-add-decisions-2
 add-decisions-2 c = search needs
 
+refused-requires-5 : tie.Need-refused-requires-5
+refused-requires-5 c κs = search needs
+
+returns-5 : tie.Need-returns-5
+returns-5 c =
+    let count = c .before .before .before in
+    let n = count .before .before .before in
+    let a = n .before .before .before .args in
+    refused-as (c .refused5 .result) (c .refused5 .ensures)
+    (at-count count ∙ symbols-cut (a .version) (a .p) (n .number .result) (count .number2 .result) (c .before .before .if4 .left) (c .before .if5 .taken))
+
 refused-requires-6 : tie.Need-refused-requires-6
 refused-requires-6 c κs = search needs
 
 returns-6 : tie.Need-returns-6
 returns-6 c =
-    let count = c .before .before .before in
-    let question = count .before .before in
-    let n = question .before .before .before in
+    let count = c .before .before .before .before in
+    let n = count .before .before .before in
     let a = n .before .before .before .args in
     refused-as (c .refused6 .result) (c .refused6 .ensures)
-    (at-count question (count .number2 .result) (count .number2 .ensures .0)
-    ∙ symbols-cut (a .books .now) (a .version) (a .p) (n .number .result) (count .number2 .result)
-    (sym (question .asked .ensures) ∙ not-false (question .asked .result) (count .before .if4 .left)) (c .before .before .if5 .left) (c .before .if6 .taken))
-
-refused-requires-7 : tie.Need-refused-requires-7
-refused-requires-7 c κs = search needs
+    (at-count count ∙ decision-cut (a .version) (a .p) (n .number .result) (count .number2 .result) (c .before .before .before .if4 .left) (c .before .before .if5 .left) (c .before .if6 .taken))
 
 returns-7 : tie.Need-returns-7
 returns-7 c =
-    let there = c .before .before in
-    let count = there .before .before in
-    let n = count .before .before .before .before .before in
+    let count = c .before .before .before in
+    let n = count .before .before .before in
     let a = n .before .before .before .args in
-    refused-as (c .refused7 .result) (c .refused7 .ensures)
-    (at-decisions there ∙ decision-cut (a .books .now) (a .version) (a .p) (n .number .result) (count .number2 .result) (c .before .if7 .taken))
-
-rising-requires : tie.Need-rising-requires
-rising-requires c κs = search needs
-
-refused-requires-8 : tie.Need-refused-requires-8
-refused-requires-8 c κs = search needs
-
-returns-8 : tie.Need-returns-8
-returns-8 c =
-    let there = c .before .before .before .before in
-    let count = there .before .before in
-    let n = count .before .before .before .before .before in
-    let a = n .before .before .before .args in
-    refused-as (c .refused8 .result) (c .refused8 .ensures)
-    (at-decisions there ∙ not-rising (a .books .now) (a .version) (a .p) (n .number .result) (count .number2 .result) (c .before .before .before .if7 .left)
-    (sym (c .before .before .rising .ensures) ∙ not-true (c .before .before .rising .result) (c .before .if8 .taken)))
-
-returns-9 : tie.Need-returns-9
-returns-9 c =
-    let there = c .before .before .before in
-    let count = there .before .before in
-    let n = count .before .before .before .before .before in
-    let a = n .before .before .before .args in
-    read-as _ _ (at-decisions there ∙ record-read (a .books .now) (a .version) (a .p) (n .number .result) (count .number2 .result) (c .before .before .if7 .left)
-    (sym (c .before .rising .ensures) ∙ not-false (c .before .rising .result) (c .if8 .left)))
+    read-as _ _ (at-count count ∙ record-read (a .version) (a .p) (n .number .result) (count .number2 .result) (c .before .before .if4 .left) (c .before .if5 .left) (c .if6 .left))
 
 pub read-record-spec : {M : Type 1} → statement M
 read-record-spec =
@@ -211,20 +138,14 @@ read-record-spec =
     add-if3
     refused-requires-3
     returns-3
-    asked-requires
+    number-requires-2
     refused-requires-4
     returns-4
-    number-requires-2
-    refused-requires-5
-    returns-5
     add-decisions
     mul-decisions
     add-decisions-2
+    refused-requires-5
+    returns-5
     refused-requires-6
     returns-6
-    refused-requires-7
-    returns-7
-    rising-requires
-    refused-requires-8
-    returns-8
-    returns-9)
+    returns-7)
