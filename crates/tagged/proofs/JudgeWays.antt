@@ -36,9 +36,6 @@ end-within s p inside = omega (arith, run-within (drop p s), length-drop p s)
 -- ---- what a line is, by its number
 
 module _ (form : Form) (bs : List ℕ) (is : lineBy form bs ≡ lineOf bs) where
-  kind-by : kindOf (lineBy form bs) ≡ kindOf (lineOf bs)
-  kind-by = ap kindOf is
-
   pub kind-heading : form ≡ Heading → 1 ≡ kindOf (lineOf bs)
   kind-heading e = rw (← is, e) refl
 

@@ -19,6 +19,9 @@ pub mod TermsGoing
 pub mod TermsTold
 pub mod TermsNoted
 pub mod JudgeWays
+pub mod TwiceChains
+pub mod TwiceBlocks
+pub mod TwicePairs
 pub mod TwiceWays
 pub mod MirrorWays
 pub mod JudgeParts

@@ -11,7 +11,7 @@ use Rattle.tagged.specs.Places.{endOf, bytesOf}
 use Rattle.tagged.specs.Judging.{kindOf, mirrorLines, nextHeading, mirrorIn, isRelation, wants, unmirroredFrom, nameAt, lineAt}
 use Rattle.tagged.proofs.LineWays.{end-after}
 use Rattle.tagged.proofs.TagWays.{tag-long, name-behind}
-use Rattle.tagged.proofs.JudgeWays.{linesAt, Formed, is-heading, is-broader, is-narrower, is-other, formed, end-within}
+use Rattle.tagged.proofs.JudgeWays.{linesAt, Formed, is-heading, is-broader, is-narrower, is-other, formed, kind-small, end-within}
 
 -- ---- two lines
 
@@ -63,20 +63,14 @@ behind-tag s p inside two = by (formed (nameAt s p))
     by (is-narrower t e) = name-behind s p (endOf s p) within (tag-long s p (endOf s p) within 78 t)
     by (is-other e) = absurd (omega (arith, ap kindOf e))
 
-kind-3 : (l : Line) → kindOf l ≤ 3
-kind-3 (heading x) = omega arith
-kind-3 (broader x) = omega arith
-kind-3 (narrower x) = omega arith
-kind-3 other = omega arith
-
 module _ (s : List ℕ) (h p g q : ℕ) (at-p : p ≤ length s) (at-q : q ≤ length s) (five : kindOf (lineAt s p) + kindOf (lineAt s q) ≡ 5) where
   abbrev pub Mirror : Bool
   Mirror = mirrorLines (nameAt s h) (lineAt s p) (nameAt s g) (lineAt s q)
 
   mirror-by : Mirror ≡ (same (nameAt s g) (bytesOf s (p + 5) (endOf s p)) && same (bytesOf s (q + 5) (endOf s q)) (nameAt s h))
   mirror-by =
-      let there = behind-tag s p at-p (omega (arith, kind-3 (lineAt s q))) in
-      let back = behind-tag s q at-q (omega (arith, kind-3 (lineAt s p))) in
+      let there = behind-tag s p at-p (omega (arith, kind-small (lineAt s q))) in
+      let back = behind-tag s q at-q (omega (arith, kind-small (lineAt s p))) in
       mirror-two (nameAt s h) (nameAt s g) (nameAt s p) (nameAt s q) five ∙ rw (there, back) refl
 
   pub mirror-there : same (nameAt s g) (bytesOf s (p + 5) (endOf s p)) ≡ true → same (bytesOf s (q + 5) (endOf s q)) (nameAt s h) ≡ Mirror

@@ -49,13 +49,6 @@ twiceFrom headings n (broader name ∷ rest) = twiceFrom headings (suc n) rest
 twiceFrom headings n (narrower name ∷ rest) = twiceFrom headings (suc n) rest
 twiceFrom headings n (other ∷ rest) = twiceFrom headings (suc n) rest
 
--- what is told of a line behind these headings: 2 it gives one of them again, 1 it gives a new one, 0 it gives none
-abbrev pub givenBy : List Name → Line → ℕ
-givenBy headings (heading name) = elim (isHeading name headings) [ true ↦ 2 | false ↦ 1 ]
-givenBy headings (broader name) = 0
-givenBy headings (narrower name) = 0
-givenBy headings other = 0
-
 -- the line m under heading g is the mirror of the line l under heading h
 abbrev pub mirrorLines : Name → Line → Name → Line → Bool
 mirrorLines h (broader x) g (narrower y) = same g x && same y h

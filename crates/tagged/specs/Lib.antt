@@ -13,6 +13,7 @@ pub mod Saved
 pub mod TermRows
 pub mod Gathering
 pub mod Judging
+pub mod Blocks
 pub mod Saving
 pub mod Putting
 pub mod Cases

@@ -1,106 +1,84 @@
--- `first_twice` meets its contract: no line passed gives a heading again, and those still to come decide.
-use mathlib.Core.Path.{_≡_, refl, sym, ap, _∙_}
-use mathlib.Core.List.{[], _∷_}
-use Prim.Native.Nat.{_+_, _-_, _≤_, _<_}
+-- `first_twice` meets its contract: block by block the first line is kept that gives a heading of the blocks so far again.
+use mathlib.Core.Bool.{true, false}
+use mathlib.Core.Path.{_≡_, refl, ap, sym, _∙_}
+use Prim.Native.Nat.{ℕ, _+_, _-_, _≤_, _<_}
 use native.Mathlib.Omega.{arith}
 use borrow.Author.Needs.{needs}
-use lib.ListN.{length, take, drop}
-use Rattle.tagged.specs.Lines.{linesOf}
-use Rattle.tagged.specs.Listing.{headingsOf}
-use Rattle.tagged.specs.Judging.{givenBy, twiceFrom, lineAt}
-use Rattle.tagged.proofs.LineWays.{end-after}
-use Rattle.tagged.proofs.TwiceWays.{TwiceSoFar, twice-start, twice-end, twice-over, twice-cut-at, twice-told, twice-more, given-small}
+use borrow.Author.Tests.{not-true, not-false}
+use lib.ListN.{length, length-replicate}
+use Rattle.tagged.specs.Blocks.{Begins, Rows, BestSoFar}
+use Rattle.tagged.proofs.TwicePairs.{best-start, best-end, best-twice, best-on, last-told, begins-first}
 use Rattle.tagged.proofs.judge.first_twice.Statement.{statement}
 use Rattle.tagged.proofs.judge.first_twice.Tie as tie
 
 abbrev Inv-loop : tie.InvT-loop
-Inv-loop s lines line₀ headings₀ at₀ line headings at = (line ≤ at + 1) × (headings ≤ at) × TwiceSoFar s lines line headings at
+Inv-loop s lines place₀ before₀ last₀ best₀ at₀ line₀ place before last best at line = Begins s at line × Rows place before last × BestSoFar s lines best (line - 1)
 
 abbrev μ-loop : tie.MeasureT-loop
-μ-loop s lines line₀ headings₀ at₀ line headings at = length s - at
+μ-loop s lines place₀ before₀ last₀ best₀ at₀ line₀ place before last best at line = length s - at
 
 loop-holds : tie.Need-loop-holds Inv-loop μ-loop
 loop-holds c =
     let a = c .before .args in
-    (omega arith, omega arith, twice-start (a .s .now) (a .lines))
+    (begins-first (a .s .now), (length-replicate {A = ℕ} 8192 0, length-replicate {A = ℕ} 8192 0, length-replicate {A = ℕ} 8192 0), best-start (a .s .now) (a .lines))
 
-line-end-requires : tie.Need-line-end-requires Inv-loop μ-loop
-line-end-requires c κs = search needs
+until-of-requires : tie.Need-until-of-requires Inv-loop μ-loop
+until-of-requires c κs = search needs
+
+fill-requires : tie.Need-fill-requires Inv-loop μ-loop
+fill-requires c κs =
+    let loop = c .before .before .before .before .before .loop in
+    (loop .inv .0, loop .inv .1)
 
 returns : tie.Need-returns Inv-loop μ-loop
 returns c =
-    let loop = c .before .before .before .loop in
-    let a = c .before .before .before .before .before .args in
-    let to = c .before .line-end .ensures in
-    twice-cut-at (a .s .now) (a .lines) (loop .line) (loop .headings) (loop .at) (loop .inv .2) (omega arith) (omega arith)
+    let loop = c .before .before .before .before .before .before .before .loop in
+    let a = c .before .before .before .before .before .before .before .before .before .args in
+    let until = c .before .before .before .before .before .until-of in
+    best-twice (a .s .now) (a .lines) (loop .best) (loop .line - 1) (until .result) (loop .inv .2) (until .ensures) (c .before .fill .result .twice) (c .before .fill .ensures .twice (c .if1 .taken))
 
 returns-2 : tie.Need-returns-2 Inv-loop μ-loop
 returns-2 c =
-    let loop = c .before .before .before .before .loop in
-    let a = c .before .before .before .before .before .before .args in
-    twice-over (a .s .now) (a .lines) (loop .line) (loop .headings) (loop .at) (loop .inv .2) (c .if2 .taken)
+    let loop = c .before .before .before .before .before .before .before .before .before .loop in
+    let a = c .before .before .before .before .before .before .before .before .before .before .before .args in
+    let until = c .before .before .before .before .before .before .before .until-of in
+    best-end (a .s .now) (a .lines) (loop .best) (loop .line - 1) (until .result) (loop .inv .2) (until .ensures) (c .before .before .before .fill .ensures .over (c .before .before .if1 .left) (not-true (c .before .before .before .fill .result .full) (c .if2 .taken)))
 
-given-at-requires : tie.Need-given-at-requires Inv-loop μ-loop
-given-at-requires c κs =
-    let loop = c .before .before .before .before .loop in
-    (omega arith, loop .inv .2 .few)
+first-known-requires : tie.Need-first-known-requires Inv-loop μ-loop
+first-known-requires c κs =
+    let full = c .before .before .before .before .before .before .fill .ensures .full (not-false (c .before .before .before .before .before .before .fill .result .full) (c .before .before .before .if2 .left)) in
+    (full .1, full .0 .table)
 
-returns-3 : tie.Need-returns-3 Inv-loop μ-loop
-returns-3 c =
-    let loop = c .before .before .before .before .before .before .loop in
-    let a = c .before .before .before .before .before .before .before .before .args in
-    let to = c .before .before .before .before .line-end .ensures in
-    let given = c .before .given-at .ensures in
-    twice-told (a .s .now) (a .lines) (loop .line) (loop .headings) (loop .at) (loop .inv .2) (omega arith) (omega arith) (sym given ∙ c .if3 .taken)
-
-add-headings : tie.Need-add-headings Inv-loop μ-loop
-add-headings c =
-    let loop = c .before .before .before .before .before .before .loop in
-    let a = c .before .before .before .before .before .before .before .before .args in
-    let s = a .s .now in
-    let given = c .before .given-at .ensures in
-    let small = given-small (take (loop .headings) (headingsOf (linesOf s))) (lineAt s (loop .at)) in
-    let fits : loop .headings + c .before .given-at .result ≤ length s + 1 = omega (arith, loop .inv .1) in
-    search needs
-
-add-line : tie.Need-add-line Inv-loop μ-loop
-add-line c =
-    let loop = c .before .before .before .before .before .before .loop in
-    let a = c .before .before .before .before .before .before .before .before .args in
-    let fits : loop .line + 1 ≤ length (a .s .now) + 1 = omega (arith, loop .inv .0) in
-    search needs
-
-add-at : tie.Need-add-at Inv-loop μ-loop
-add-at c = search needs
+sooner-requires : tie.Need-sooner-requires Inv-loop μ-loop
+sooner-requires c κs = search needs
 
 loop-less : tie.Need-loop-less Inv-loop μ-loop
 loop-less c =
-    let loop = c .before .before .before .before .before .before .loop in
-    let a = c .before .before .before .before .before .before .before .before .args in
-    let later = end-after (a .s .now) (loop .at) in
-    let to = c .before .before .before .before .line-end .ensures in
-    omega arith
+    let loop = c .before .before .before .before .before .before .before .before .before .before .before .before .before .before .loop in
+    let full = c .before .before .before .before .before .before .before .before .fill .ensures .full (not-false (c .before .before .before .before .before .before .before .before .fill .result .full) (c .before .before .before .before .before .if2 .left)) in
+    omega (arith, full .2, c .before .before .before .before .before .before .before .before .before .before .before .before .before .loop-test .taken)
 
 loop-again : tie.Need-loop-again Inv-loop μ-loop
 loop-again c =
-    let loop = c .before .before .before .before .before .before .loop in
-    let a = c .before .before .before .before .before .before .before .before .args in
-    let s = a .s .now in
-    let later = end-after s (loop .at) in
-    let to = c .before .before .before .before .line-end .ensures in
-    let given = c .before .given-at .ensures in
-    let small = given-small (take (loop .headings) (headingsOf (linesOf s))) (lineAt s (loop .at)) in
-    let one : c .before .given-at .result ≤ 1 = omega (arith, c .if3 .left) in (
-      omega (arith, loop .inv .0),
-      omega (arith, loop .inv .1),
-      rw (to, given) (twice-more s (a .lines) (loop .line) (loop .headings) (loop .at) (loop .inv .2) (omega arith) (omega arith) (λ e. c .if3 .left (given ∙ e))),
+    let loop = c .before .before .before .before .before .before .before .before .before .before .before .before .before .before .loop in
+    let a = c .before .before .before .before .before .before .before .before .before .before .before .before .before .before .before .before .args in
+    let until = c .before .before .before .before .before .before .before .before .before .before .before .before .until-of in
+    let f = c .before .before .before .before .before .before .before .before .fill in
+    let full = f .ensures .full (not-false (f .result .full) (c .before .before .before .before .before .if2 .left)) in
+    let l = f .last .1 .1 .1 .1 in
+    let new = c .sooner in
+    let known = c .before .first-known in (
+      full .1,
+      full .0 .table .sized,
+      best-on (a .s .now) (a .lines) (loop .best) (loop .line - 1) (until .result) (loop .inv .2) (until .ensures) (f .result .line) (l .0) (l .1 .0) (l .1 .1 .0) (full .0)
+          (omega (arith, full .3)) (known .result) (new .result) (known .ensures) (new .ensures .0) (new .ensures .1),
     )
 
-returns-4 : tie.Need-returns-4 Inv-loop μ-loop
-returns-4 c =
+returns-3 : tie.Need-returns-3 Inv-loop μ-loop
+returns-3 c =
     let loop = c .before .loop in
     let a = c .before .before .before .args in
-    twice-end (a .s .now) (a .lines) (loop .line) (loop .headings) (loop .at) (loop .inv .2) (omega arith)
+    last-told (a .s .now) (a .lines) (loop .best) (loop .at) (loop .line) (loop .inv .0) (loop .inv .2) (c .loop-test .left)
 
 pub first-twice-spec : {M : Type 1} → statement M
 first-twice-spec =
@@ -109,14 +87,12 @@ first-twice-spec =
     Inv-loop
     μ-loop
     loop-holds
-    line-end-requires
+    until-of-requires
+    fill-requires
     returns
     returns-2
-    given-at-requires
-    returns-3
-    add-headings
-    add-line
-    add-at
+    first-known-requires
+    sooner-requires
     loop-less
     loop-again
-    returns-4)
+    returns-3)
