@@ -1,9 +1,9 @@
 // Reads one tagged listing from standard input and prints what comes of it: a line `R number line bytes`, then the book in hexadecimal.
 use limits::Limits;
+use listings::write_listing;
 use reading::part_of;
 use tables::show_hex;
 use tables::show_item;
-use tagged::write_listing;
 
 // The longest listing that is read; of a longer one only `J` is printed.
 const LONGEST: usize = 262143;

@@ -32,16 +32,16 @@ use Rattle.tagged.specs.Write.{passes, written, bookFrom}
 use Rattle.tagged.specs.Write as Write
 use Rattle.tagged.specs.Saved.{answered, judged, savedAs}
 use Rattle.tagged.specs.Saved as Saved
-use Rattle.tagged.specs.Putting.{outcomeOf as handedOn}
-use Rattle.tagged.specs.Saving.{outcomeOf as toldOf}
+use Rattle.listings.specs.Putting.{outcomeOf as handedOn}
+use Rattle.listings.specs.Saving.{outcomeOf as toldOf}
 use Rattle.tagged.proofs.Refused.{numbered, number-is}
 use Rattle.tagged.proofs.FirstCircle.{told}
-use Rattle.tagged.proofs.write_listing as writing
-use Rattle.tagged.proofs.write_listing.Met as written-so
-use Rattle.tagged.proofs.write_listing.Symbol as write-symbol
-use Rattle.tagged.proofs.save_listing as saving
-use Rattle.tagged.proofs.save_listing.Met as saved-so
-use Rattle.tagged.proofs.save_listing.Symbol as save-symbol
+use Rattle.listings.proofs.write_listing as writing
+use Rattle.listings.proofs.write_listing.Met as written-so
+use Rattle.listings.proofs.write_listing.Symbol as write-symbol
+use Rattle.listings.proofs.save_listing as saving
+use Rattle.listings.proofs.save_listing.Met as saved-so
+use Rattle.listings.proofs.save_listing.Symbol as save-symbol
 use Rattle.above.specs.Promised.{asking}
 use Rattle.above.proofs.Promised.{promised}
 use Rattle.above.proofs.TooLarge.{told-43}

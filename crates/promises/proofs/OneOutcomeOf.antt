@@ -30,8 +30,8 @@ use Rattle.book.proofs.read_question as read-question
 use Rattle.book.proofs.rows_read as rows-read
 use Rattle.writer.proofs.write_book as write-book
 use Rattle.converter.proofs.convert_book as convert-book
-use Rattle.tagged.proofs.write_listing as write-listing
-use Rattle.tagged.proofs.save_listing as save-listing
+use Rattle.listings.proofs.write_listing as write-listing
+use Rattle.listings.proofs.save_listing as save-listing
 use Rattle.nodes.proofs.Row.apply as row-apply
 use Rattle.nodes.proofs.Row.choice as row-choice
 use Rattle.nodes.proofs.Row.fail as row-fail

@@ -1,6 +1,4 @@
 pub mod Lines
-pub mod Places
-pub mod InCode
 pub mod Listing
 pub mod Terms
 pub mod Laid
@@ -10,10 +8,4 @@ pub mod Levels
 pub mod Circle
 pub mod Told
 pub mod Saved
-pub mod TermRows
-pub mod Gathering
-pub mod Judging
-pub mod Blocks
-pub mod Saving
-pub mod Putting
 pub mod Cases

@@ -1,11 +1,1 @@
-// Books from the tagged listing, and the circle named before the night.
-mod circle;
-mod judge;
-mod lines;
-mod terms;
-mod write;
-
-pub use circle::Saved;
-pub use circle::save_listing;
-pub use write::Written;
-pub use write::write_listing;
+// The tagged listing: what it says, the book that is made of it, levels and the circle. Definitions and theorems; the code is in crate `listings`.

@@ -1,0 +1,24 @@
+-- `next_heading` meets its contract.
+use mathlib.Core.Path.{sym, _∙_}
+use native.Mathlib.Omega.{arith}
+use borrow.Author.Needs.{needs}
+use Rattle.listings.specs.Judging.{nameAt, lineAt}
+use Rattle.listings.proofs.JudgeWays.{heading-next, heading-stays}
+use Rattle.listings.proofs.judge.next_heading.Statement.{statement}
+use Rattle.listings.proofs.judge.next_heading.Tie as tie
+
+kind-at-requires : tie.Need-kind-at-requires
+kind-at-requires c κs = search needs
+
+returns : tie.Need-returns
+returns c =
+    let a = c .before .before .before .args in
+    (omega arith, heading-next (nameAt (a .s .now) (a .g)) (nameAt (a .s .now) (a .at)) (sym (c .before .kind-at .ensures) ∙ c .if1 .taken))
+
+returns-2 : tie.Need-returns-2
+returns-2 c =
+    let a = c .before .before .before .args in
+    (omega arith, heading-stays (nameAt (a .s .now) (a .g)) (lineAt (a .s .now) (a .at)) (λ e. c .if1 .left (c .before .kind-at .ensures ∙ e)))
+
+pub next-heading-spec : {M : Type 1} → statement M
+next-heading-spec = tie.close (tie.spec kind-at-requires returns returns-2)

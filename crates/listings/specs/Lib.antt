@@ -1,0 +1,8 @@
+pub mod Places
+pub mod InCode
+pub mod TermRows
+pub mod Gathering
+pub mod Judging
+pub mod Blocks
+pub mod Saving
+pub mod Putting

@@ -1,0 +1,496 @@
+// Whether a listing is good: 40 and 41 line by line, then 42.
+ghost use mathlib.Core.Path.{_≡_};
+ghost use mathlib.Core.List.{[]};
+ghost use Prim.Native.Nat.{ℕ, _-_, _≤_, _<_};
+ghost use lib.ListN.{length, take};
+ghost use Rattle.tagged.specs.Lines.{linesOf};
+ghost use Rattle.tagged.specs.Listing.{broaderIn};
+ghost use Rattle.listings.specs.TermRows.{JudgedAs};
+ghost use Rattle.listings.specs.Places.{bytesOf};
+ghost use Rattle.listings.specs.Blocks.{hashOf, tableSize, nameOf, Inside, Chained, Sized, Rows, Cleared, Table, Sought, Entered};
+ghost use Rattle.listings.specs.Blocks.{Begins, FilledAs, KnownBy, KnownFirst};
+ghost use Rattle.listings.specs.Judging.{kindOf, worth, FormsAs, twiceFrom, nameAt, lineAt};
+ghost use Rattle.listings.specs.Judging.{mirrorLines, nextHeading, mirrorIn, wants, unmirroredFrom};
+use super::lines::Form;
+use super::lines::form_of;
+use super::lines::line_end;
+use super::lines::same;
+
+// 0 and how many headings there are, or the refusal and its line.
+pub struct Verdict {
+    pub number: u8,
+    pub line: usize,
+    pub headings: usize,
+}
+
+// How many lines are good, whether one behind them is not, and how many headings there are.
+pub struct Forms {
+    pub lines: usize,
+    pub bad: bool,
+    pub headings: usize,
+}
+
+// What the line at `at` is: 1 a heading's own, 2 a BT, 3 an NT, 0 none of these.
+fn kind_at(s: &[u8], at: usize) -> usize
+    requires { ⌜ at ≤ length (now s) ⌝ }
+    ensures { λ r. ⌜ r ≡ kindOf (lineAt (now (s .entry)) at) ⌝ }
+{
+    let to = line_end(s, at);
+    let f = form_of(s, at, to);
+    match f {
+        Form::Heading => 1,
+        Form::Broader => 2,
+        Form::Narrower => 3,
+        Form::Other => 0,
+    }
+}
+
+// Behind so many headings: 0 a line not of this form, 1 a BT or NT, 2 a heading.
+fn worth_at(s: &[u8], at: usize, headings: usize) -> usize
+    requires { ⌜ at ≤ length (now s) ⌝ }
+    ensures { λ r. ⌜ r ≡ worth headings (lineAt (now (s .entry)) at) ⌝ }
+{
+    let kind = kind_at(s, at);
+    if kind == 1 {
+        return 2;
+    }
+    if kind == 0 {
+        return 0;
+    }
+    if headings == 0 {
+        return 0;
+    }
+    1
+}
+
+// "40 line not of this form", for all lines.
+fn forms_of(s: &[u8]) -> Forms
+    ensures { λ r. ⌜ FormsAs r (linesOf (now (s .entry))) ⌝ }
+{
+    let mut lines: usize = 0;
+    let mut headings: usize = 0;
+    let mut at: usize = 0;
+    while at < s.len() {
+        let to = line_end(s, at);
+        if s.len() <= to {
+            return Forms {
+                lines,
+                bad: true,
+                headings,
+            };
+        }
+        let w = worth_at(s, at, headings);
+        if w == 0 {
+            return Forms {
+                lines,
+                bad: true,
+                headings,
+            };
+        }
+        headings += w - 1;
+        lines += 1;
+        at = to + 1;
+    }
+    Forms {
+        lines,
+        bad: false,
+        headings,
+    }
+}
+
+// How many entries a table of names has, and how many hashes there are.
+pub const TABLE: usize = 8192;
+
+// How far a table was filled: the line that gives one of its headings again, or 0; whether it is full, and then the next line and its place.
+pub struct Filled {
+    pub twice: usize,
+    pub full: bool,
+    pub at: usize,
+    pub line: usize,
+}
+
+fn wide(b: u8) -> usize
+    ensures { λ r. ⌜ (r ≡ b) × (r < 256) ⌝ }
+{
+    b as usize
+}
+
+fn hash_of(s: &[u8], from: usize, until: usize) -> usize
+    requires { ⌜ until ≤ length (now s) ⌝ }
+    ensures { λ r. ⌜ (r ≡ hashOf (bytesOf (now (s .entry)) from until)) × (r < tableSize) ⌝ }
+{
+    let mut h: usize = 0;
+    let mut i = from;
+    while i < until {
+        h = (h * 257 + wide(s[i])) % 4294967291;
+        i += 1;
+    }
+    h % TABLE
+}
+
+// No name has been entered.
+fn clear(last: &mut [usize; TABLE])
+    requires { ⌜ Sized (now last) ⌝ }
+    ensures { λ _. ⌜ Cleared (now (last .exit)) ⌝ }
+{
+    let mut h: usize = 0;
+    while h < TABLE {
+        last[h] = 0;
+        h += 1;
+    }
+}
+
+// The name from `at` to `to` is one of the first `from` entries: it is sought down the chain of its hash.
+fn in_table(
+    s: &[u8],
+    place: &[usize; TABLE],
+    before: &[usize; TABLE],
+    from: usize,
+    at: usize,
+    to: usize,
+) -> bool
+    requires { ⌜ Inside (now s) (now place) from ⌝
+        ∗ ⌜ Chained (λ (k : ℕ). hashOf (nameOf (now s) (now place) k)) (now before) from ⌝
+        ∗ ⌜ (0 < from → hashOf (nameOf (now s) (now place) (from - 1)) ≡ hashOf (bytesOf (now s) at to)) ⌝
+        ∗ ⌜ (from ≤ tableSize) × (to ≤ length (now s)) ⌝ }
+    ensures { λ r. ⌜ Sought r (now (s .entry)) (now (place .entry)) from (bytesOf (now (s .entry)) at to) ⌝ }
+{
+    let mut i = from;
+    while i != 0 {
+        let p = place[i - 1];
+        let end = line_end(s, p);
+        if same(s, at, to, p, end) {
+            return true;
+        }
+        i = before[i - 1];
+    }
+    false
+}
+
+// The line at `at` is looked up in a table of `count` entries, and its heading entered if it is not there.
+fn enter(
+    s: &[u8],
+    at: usize,
+    count: usize,
+    place: &mut [usize; TABLE],
+    before: &mut [usize; TABLE],
+    last: &mut [usize; TABLE],
+) -> usize
+    requires { ⌜ Table (now s) (now place) (now before) (now last) count ⌝ ∗ ⌜ (at ≤ length (now s)) × (count < tableSize) ⌝ }
+    ensures { λ r. ⌜ Entered r (now (s .entry)) at count (now (place .entry)) (now (before .entry)) (now (last .entry))
+        (now (place .exit)) (now (before .exit)) (now (last .exit)) ⌝ }
+{
+    let kind = kind_at(s, at);
+    if kind != 1 {
+        return 0;
+    }
+    let to = line_end(s, at);
+    let h = hash_of(s, at, to);
+    let from = last[h];
+    if in_table(s, place, before, from, at, to) {
+        return 2;
+    }
+    place[count] = at;
+    before[count] = from;
+    last[h] = count + 1;
+    1
+}
+
+// The table is filled with the headings from line `line` at `at` on, up to line `until`: each is looked up and, if it is new, entered.
+fn fill(
+    s: &[u8],
+    at: usize,
+    line: usize,
+    until: usize,
+    place: &mut [usize; TABLE],
+    before: &mut [usize; TABLE],
+    last: &mut [usize; TABLE],
+) -> Filled
+    requires { ⌜ Begins (now s) at line ⌝ ∗ ⌜ Rows (now place) (now before) (now last) ⌝ }
+    ensures { λ r. ⌜ FilledAs r (now (s .entry)) at line until (now (place .exit)) (now (before .exit)) (now (last .exit)) ⌝ }
+{
+    clear(last);
+    let mut p = at;
+    let mut n = line;
+    let mut count: usize = 0;
+    while p < s.len() {
+        let to = line_end(s, p);
+        if s.len() <= to {
+            return Filled {
+                twice: 0,
+                full: false,
+                at: p,
+                line: n,
+            };
+        }
+        if until < n {
+            return Filled {
+                twice: 0,
+                full: false,
+                at: p,
+                line: n,
+            };
+        }
+        if count == TABLE {
+            return Filled {
+                twice: 0,
+                full: true,
+                at: p,
+                line: n,
+            };
+        }
+        let e = enter(s, p, count, place, before, last);
+        if e == 2 {
+            return Filled {
+                twice: n,
+                full: false,
+                at: p,
+                line: n,
+            };
+        }
+        count += e;
+        n += 1;
+        p = to + 1;
+    }
+    Filled {
+        twice: 0,
+        full: false,
+        at: p,
+        line: n,
+    }
+}
+
+// The line at `at` gives one of a full table's headings.
+fn known_at(
+    s: &[u8],
+    at: usize,
+    place: &[usize; TABLE],
+    before: &[usize; TABLE],
+    last: &[usize; TABLE],
+) -> bool
+    requires { ⌜ Table (now s) (now place) (now before) (now last) tableSize ⌝ ∗ ⌜ at ≤ length (now s) ⌝ }
+    ensures { λ r. ⌜ KnownBy r (now (s .entry)) (now (place .entry)) at ⌝ }
+{
+    let kind = kind_at(s, at);
+    if kind != 1 {
+        return false;
+    }
+    let to = line_end(s, at);
+    let h = hash_of(s, at, to);
+    let from = last[h];
+    in_table(s, place, before, from, at, to)
+}
+
+// The first line from line `line` at `at` on, up to line `until`, that gives one of a full table's headings; 0 if there is none.
+fn first_known(
+    s: &[u8],
+    at: usize,
+    line: usize,
+    until: usize,
+    place: &[usize; TABLE],
+    before: &[usize; TABLE],
+    last: &[usize; TABLE],
+) -> usize
+    requires { ⌜ Begins (now s) at line ⌝ ∗ ⌜ Table (now s) (now place) (now before) (now last) tableSize ⌝ }
+    ensures { λ r. ⌜ KnownFirst (now (s .entry)) (now (place .entry)) line until r ⌝ }
+{
+    let mut p = at;
+    let mut n = line;
+    while p < s.len() {
+        let to = line_end(s, p);
+        if s.len() <= to {
+            return 0;
+        }
+        if until < n {
+            return 0;
+        }
+        if known_at(s, p, place, before, last) {
+            return n;
+        }
+        n += 1;
+        p = to + 1;
+    }
+    0
+}
+
+// The lines that are still of interest.
+fn until_of(best: usize, lines: usize) -> usize
+    ensures { λ r. ⌜ (best ≡ 0 → r ≡ lines) × ((best ≡ 0 → ⊥) → r ≡ best - 1) ⌝ }
+{
+    if best == 0 {
+        return lines;
+    }
+    best - 1
+}
+
+// The first of two lines, where 0 is none, and the new one lies before the old.
+fn sooner(new: usize, old: usize) -> usize
+    ensures { λ r. ⌜ (new ≡ 0 → r ≡ old) × ((new ≡ 0 → ⊥) → r ≡ new) ⌝ }
+{
+    if new == 0 {
+        return old;
+    }
+    new
+}
+
+// "41 heading given twice": the first such line among so many; 0 if there is none. The headings are taken by blocks that fill a table, and the lines behind a
+// block are looked up in it, up to the first line found so far: some lines * lines / TABLE look-ups for names whose hashes lie apart.
+fn first_twice(s: &[u8], lines: usize) -> usize
+    ensures { λ r. ⌜ r ≡ twiceFrom [] 1 (take lines (linesOf (now (s .entry)))) ⌝ }
+{
+    let mut place = [0usize; TABLE];
+    let mut before = [0usize; TABLE];
+    let mut last = [0usize; TABLE];
+    let mut best: usize = 0;
+    let mut at: usize = 0;
+    let mut line: usize = 1;
+    while at < s.len() {
+        let until = until_of(best, lines);
+        let f = fill(s, at, line, until, &mut place, &mut before, &mut last);
+        let twice = f.twice;
+        if twice != 0 {
+            return twice;
+        }
+        if !f.full {
+            return best;
+        }
+        at = f.at;
+        line = f.line;
+        let known = first_known(s, at, line, until, &place, &before, &last);
+        best = sooner(known, best);
+    }
+    best
+}
+
+// The line at q, under the heading at g, is the mirror of the one at p, under the heading at h.
+fn is_mirror(s: &[u8], h: usize, p: usize, g: usize, q: usize) -> bool
+    requires { ⌜ (h ≤ length (now s)) × (p ≤ length (now s)) × (g ≤ length (now s)) × (q ≤ length (now s)) ⌝ }
+    ensures { λ r. ⌜ r ≡ mirrorLines (nameAt (now (s .entry)) h) (lineAt (now (s .entry)) p) (nameAt (now (s .entry)) g) (lineAt (now (s .entry)) q) ⌝ }
+{
+    let k = kind_at(s, p);
+    let m = kind_at(s, q);
+    if k + m != 5 {
+        return false;
+    }
+    let p_end = line_end(s, p);
+    let q_end = line_end(s, q);
+    let h_end = line_end(s, h);
+    let g_end = line_end(s, g);
+    if same(s, g, g_end, p + 5, p_end) {
+        return same(s, q + 5, q_end, h, h_end);
+    }
+    false
+}
+
+// The heading under which the line behind `at` stands.
+fn next_heading(s: &[u8], g: usize, at: usize) -> usize
+    requires { ⌜ (g ≤ length (now s)) × (at ≤ length (now s)) ⌝ }
+    ensures { λ r. ⌜ (r ≤ length (now (s .entry))) × (nameAt (now (s .entry)) r ≡ nextHeading (nameAt (now (s .entry)) g) (lineAt (now (s .entry)) at)) ⌝ }
+{
+    let kind = kind_at(s, at);
+    if kind == 1 {
+        return at;
+    }
+    g
+}
+
+// The line at p, under the heading at h, has its mirror somewhere.
+fn has_mirror(s: &[u8], h: usize, p: usize) -> bool
+    requires { ⌜ (h ≤ length (now s)) × (p ≤ length (now s)) ⌝ }
+    ensures { λ r. ⌜ r ≡ mirrorIn (nameAt (now (s .entry)) h) (lineAt (now (s .entry)) p) [] (linesOf (now (s .entry))) ⌝ }
+{
+    let mut g = s.len();
+    let mut at: usize = 0;
+    while at < s.len() {
+        let to = line_end(s, at);
+        if s.len() <= to {
+            return false;
+        }
+        if is_mirror(s, h, p, g, at) {
+            return true;
+        }
+        g = next_heading(s, g, at);
+        at = to + 1;
+    }
+    false
+}
+
+// The line at p, under the heading at h, is a BT or NT without its mirror.
+fn lacks_mirror(s: &[u8], h: usize, p: usize) -> bool
+    requires { ⌜ (h ≤ length (now s)) × (p ≤ length (now s)) ⌝ }
+    ensures { λ r. ⌜ r ≡ wants (linesOf (now (s .entry))) (nameAt (now (s .entry)) h) (lineAt (now (s .entry)) p) ⌝ }
+{
+    let kind = kind_at(s, p);
+    if kind < 2 {
+        return false;
+    }
+    if has_mirror(s, h, p) {
+        return false;
+    }
+    true
+}
+
+// "42 a BT or NT whose mirror line is missing": the first such line; 0 if there is none. Each line is sought among all: some lines * lines steps.
+fn first_unmirrored(s: &[u8]) -> usize
+    ensures { λ r. ⌜ r ≡ unmirroredFrom (linesOf (now (s .entry))) [] 1 (linesOf (now (s .entry))) ⌝ }
+{
+    let mut h = s.len();
+    let mut line: usize = 1;
+    let mut at: usize = 0;
+    while at < s.len() {
+        let to = line_end(s, at);
+        if s.len() <= to {
+            return 0;
+        }
+        if lacks_mirror(s, h, at) {
+            return line;
+        }
+        h = next_heading(s, h, at);
+        line += 1;
+        at = to + 1;
+    }
+    0
+}
+
+// The first fault of a listing, if it has one.
+pub(crate) fn judged(s: &[u8]) -> Verdict
+    ensures { λ r. ⌜ JudgedAs r (broaderIn (now (s .entry))) ⌝ }
+{
+    if s.len() == 0 {
+        return Verdict {
+            number: 40,
+            line: 1,
+            headings: 0,
+        };
+    }
+    let f = forms_of(s);
+    let lines = f.lines;
+    let twice = first_twice(s, lines);
+    if twice != 0 {
+        return Verdict {
+            number: 41,
+            line: twice,
+            headings: 0,
+        };
+    }
+    if f.bad {
+        return Verdict {
+            number: 40,
+            line: lines + 1,
+            headings: 0,
+        };
+    }
+    let line = first_unmirrored(s);
+    if line != 0 {
+        return Verdict {
+            number: 42,
+            line,
+            headings: 0,
+        };
+    }
+    Verdict {
+        number: 0,
+        line: 0,
+        headings: f.headings,
+    }
+}
