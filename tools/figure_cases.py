@@ -6,7 +6,8 @@ length. Each field opens with its length in two bytes. There are 1,100 totals; t
 place, the first five totals after it, and a checksum of all: it begins at 0 and becomes (c * 31 + v) % 2^32 for each total.
 
 stdout is worked out here, from document 01 and requests L3 and L13. Beside each row that is written by hand (all but those by chance) stand the number and place
-that are expected, and the first five totals where it is not refused; the script asserts them.
+that are expected, and the first five totals where it is not refused; the script asserts them. The independent evaluator prints
+the same for this table (`independent figured < crates/figured/stdin`).
 
 usage: tools/figure_cases.py
 """

@@ -38,7 +38,7 @@ module _ (bs row : List ℕ) where
       by (refused lt not) is h = absurd (omega arith)
 
   -- and it is 0 if they can be
-  finishes : Countable bs row 0 (booksIn bs) → figures bs row .number ≡ 0
+  pub finishes : Countable bs row 0 (booksIn bs) → figures bs row .number ≡ 0
   unfolding figures endedAs
   finishes fine = by all-added
     where

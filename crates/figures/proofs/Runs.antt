@@ -1,6 +1,6 @@
 -- What a run writes is read for its figures: each record passes the tests, and gives the symbols of its answer.
 use mathlib.Core.Bool.{true}
-use mathlib.Core.List.{List, [], _∷_, _++_, map, List·Mem, mem-cons-self, mem-cons-of-mem}
+use mathlib.Core.List.{List, [], _∷_, _++_, map, List·Mem, mem-cons-self, mem-cons-of-mem, append-nil}
 use mathlib.Core.Path.{_≡_, refl, sym, ap, ap₂, _∙_}
 use Prim.Native.Nat.{ℕ, suc, _+_, _-_, _*_, _/_, _%_, _≤_, _<_}
 use native.Mathlib.Omega.{arith}
@@ -13,7 +13,10 @@ use Rattle.limits.specs.Decisions.{Decisions}
 use Rattle.reading.specs.Bytes.{bigEndian, twoBytes}
 use Rattle.machine.specs.Answers.{Answer, decisionNumbers, twoBytesEach, recordBytes, recordsBytes, answerBytes}
 use Rattle.figures.specs.AnswerBook.{rising}
-use Rattle.figures.specs.Counts.{symbolsAt, answersAt, answersOf, Writable, ReadsRuns}
+use Rattle.figures.specs.Counts.{symbolsAt, answersAt, answersOf, allAnswers, laid, Writable, ReadsRuns, AcceptsRuns}
+use Rattle.figures.proofs.Counting.{Well, ended, another, Readable}
+use Rattle.figures.proofs.Books.{none, also, finds-laid}
+use Rattle.figures.proofs.Order.{finishes}
 use Rattle.figures.proofs.Laying.{endAt, symbolsFrom, symbolCount, decisionsFrom, Fits, answers-none, answers-more}
 
 -- how many bytes numbers are
@@ -172,3 +175,30 @@ records-back bs (a ∷ answers) bound p writable rest enough =
 pub reads-runs : ReadsRuns
 unfolding answersOf answerBytes
 reads-runs answers writable = records-back (answerBytes answers) answers (length (answerBytes answers)) 1 writable refl (omega arith)
+
+-- ---- a book of them
+
+-- each of its records can be read
+records-well : (bs : List ℕ) (answers : List Answer) (p : ℕ) → ((a : Answer) → List·Mem a answers → Writable a) → drop p bs ≡ recordsBytes answers → Well bs 1 p
+unfolding recordsBytes
+records-well bs [] p writable rest = ended {i = p} (omega (arith, length-drop p bs, ap length rest))
+records-well bs (a ∷ answers) p writable rest =
+    let more = recordsBytes answers in
+    let one = writable a mem-cons-self in
+    another {i = p} (record-fits bs more a one p rest)
+    (records-well bs answers (endAt bs 1 p) (λ b there. writable b (mem-cons-of-mem a there)) (records-behind bs more a one p rest))
+
+run-readable : (answers : List Answer) → ((a : Answer) → List·Mem a answers → Writable a) → Readable (answerBytes answers)
+unfolding answerBytes
+run-readable answers writable = record { some = omega arith; numbered = refl; known = refl; well = records-well (answerBytes answers) answers 1 writable refl }
+
+-- THE BOOK OF A RUN is refused only for want of room.
+pub accepts-runs : AcceptsRuns
+unfolding allAnswers
+accepts-runs answers row writable room =
+    let book = answerBytes answers in
+    finishes (laid (book ∷ [])) row (rw (finds-laid (book ∷ [])) (
+      omega arith,
+      also (run-readable answers writable) none,
+      rw (append-nil (answersOf book), reads-runs answers writable) room,
+    ))

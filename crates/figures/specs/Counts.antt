@@ -12,7 +12,7 @@ use Rattle.reading.specs.Bytes.{bigEndian, twoBytes}
 use Rattle.book.specs.TreeAt.{isIn}
 use Rattle.machine.specs.Answers.{Answer, answerBytes}
 use Rattle.figures.specs.AnswerBook.{wholeAt}
-use Rattle.figures.specs.Figures.{bookEnd, figures}
+use Rattle.figures.specs.Figures.{mostTotal, bookEnd, figures}
 
 -- in how many of these answers, each given by its symbols, symbol f stands
 unfoldable pub howMany : ℕ → List (List ℕ) → ℕ
@@ -98,3 +98,9 @@ pub record Writable (a : Answer) : Type 0 where
 abbrev pub ReadsRuns : Type 0
 ReadsRuns = (answers : List Answer) → ((a : Answer) → List·Mem a answers → Writable a)
     → answersOf (answerBytes answers) ≡ map (λ (a : Answer). a .symbols) answers
+
+-- so the book of a run is refused only for want of room: where each symbol of its answers has a total, and that stays within 32 bits, it is not
+abbrev pub AcceptsRuns : Type 0
+AcceptsRuns = (answers : List Answer) (row : List ℕ) → ((a : Answer) → List·Mem a answers → Writable a)
+    → ((f : ℕ) → let many = howMany f (map (λ (a : Answer). a .symbols) answers) in 0 < many → (f < length row) × (getD row f 0 + many ≤ mostTotal))
+    → figures (laid (answerBytes answers ∷ [])) row .number ≡ 0

@@ -1,9 +1,10 @@
 -- Mirrors: what two lines say of each other, and what a line changes in a walk.
-use mathlib.Core.Bool.{Bool, true, false, not, _&&_, _||_}
+use mathlib.Core.Bool.{Bool, true, false, not, _&&_, _||_, and-true}
 use mathlib.Core.Path.{_≡_, refl, sym, ap, _∙_}
 use mathlib.Core.List.{List, [], _∷_}
 use Prim.Native.Nat.{ℕ, suc, _+_, _≤_, _<_}
 use native.Mathlib.Omega.{arith}
+use native.Mathlib.Decide.{ℕ-discrete}
 use native.Mathlib.Numerals.{add-one}
 use lib.ListN.{length, take, drop}
 use Rattle.tagged.specs.Lines.{Name, Line, heading, broader, narrower, other, same, bt, nt, lineOf, linesOf}
@@ -63,6 +64,10 @@ behind-tag s p inside two = by (formed (nameAt s p))
     by (is-narrower t e) = name-behind s p (endOf s p) within (tag-long s p (endOf s p) within 78 t)
     by (is-other e) = absurd (omega (arith, ap kindOf e))
 
+and-none : (t : Bool) → (t && false) ≡ false
+and-none true = refl
+and-none false = refl
+
 module _ (s : List ℕ) (h p g q : ℕ) (at-p : p ≤ length s) (at-q : q ≤ length s) (five : kindOf (lineAt s p) + kindOf (lineAt s q) ≡ 5) where
   abbrev pub Mirror : Bool
   Mirror = mirrorLines (nameAt s h) (lineAt s p) (nameAt s g) (lineAt s q)
@@ -73,11 +78,20 @@ module _ (s : List ℕ) (h p g q : ℕ) (at-p : p ≤ length s) (at-q : q ≤ le
       let back = behind-tag s q at-q (omega (arith, kind-small (lineAt s p))) in
       mirror-two (nameAt s h) (nameAt s g) (nameAt s p) (nameAt s q) five ∙ rw (there, back) refl
 
-  pub mirror-there : same (nameAt s g) (bytesOf s (p + 5) (endOf s p)) ≡ true → same (bytesOf s (q + 5) (endOf s q)) (nameAt s h) ≡ Mirror
-  mirror-there is = sym (mirror-by ∙ rw is refl)
+  pub mirror-there : same (bytesOf s (q + 5) (endOf s q)) (nameAt s h) ≡ true → same (nameAt s g) (bytesOf s (p + 5) (endOf s p)) ≡ Mirror
+  mirror-there is = sym (mirror-by ∙ rw is (and-true (same (nameAt s g) (bytesOf s (p + 5) (endOf s p)))))
 
-  pub mirror-elsewhere : same (nameAt s g) (bytesOf s (p + 5) (endOf s p)) ≡ false → false ≡ Mirror
-  mirror-elsewhere is = sym (mirror-by ∙ rw is refl)
+  mirror-elsewhere : same (bytesOf s (q + 5) (endOf s q)) (nameAt s h) ≡ false → false ≡ Mirror
+  mirror-elsewhere is = sym (mirror-by ∙ rw is (and-none (same (nameAt s g) (bytesOf s (p + 5) (endOf s p)))))
+
+-- another name than that of the heading above the other line
+pub mirror-other-name : (s : List ℕ) (h p g q : ℕ) → p ≤ length s → q ≤ length s → same (bytesOf s (q + 5) (endOf s q)) (nameAt s h) ≡ false
+    → false ≡ mirrorLines (nameAt s h) (lineAt s p) (nameAt s g) (lineAt s q)
+mirror-other-name s h p g q at-p at-q is = by (ℕ-discrete (kindOf (lineAt s p) + kindOf (lineAt s q)) 5)
+  where
+    by : Dec (kindOf (lineAt s p) + kindOf (lineAt s q) ≡ 5) → false ≡ mirrorLines (nameAt s h) (lineAt s p) (nameAt s g) (lineAt s q)
+    by (yes five) = mirror-elsewhere s h p g q at-p at-q five is
+    by (no not-5) = mirror-not (nameAt s h) (nameAt s g) (lineAt s p) (lineAt s q) not-5
 
 -- ---- a walk
 

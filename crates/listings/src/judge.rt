@@ -367,17 +367,18 @@ fn is_mirror(s: &[u8], h: usize, p: usize, g: usize, q: usize) -> bool
     requires { ⌜ (h ≤ length (now s)) × (p ≤ length (now s)) × (g ≤ length (now s)) × (q ≤ length (now s)) ⌝ }
     ensures { λ r. ⌜ r ≡ mirrorLines (nameAt (now (s .entry)) h) (lineAt (now (s .entry)) p) (nameAt (now (s .entry)) g) (lineAt (now (s .entry)) q) ⌝ }
 {
-    let k = kind_at(s, p);
-    let m = kind_at(s, q);
-    if k + m != 5 {
-        return false;
-    }
-    let p_end = line_end(s, p);
+    // most lines differ in the name, which is told soonest
     let q_end = line_end(s, q);
     let h_end = line_end(s, h);
-    let g_end = line_end(s, g);
-    if same(s, g, g_end, p + 5, p_end) {
-        return same(s, q + 5, q_end, h, h_end);
+    if same(s, q + 5, q_end, h, h_end) {
+        let k = kind_at(s, p);
+        let m = kind_at(s, q);
+        if k + m != 5 {
+            return false;
+        }
+        let p_end = line_end(s, p);
+        let g_end = line_end(s, g);
+        return same(s, g, g_end, p + 5, p_end);
     }
     false
 }
