@@ -6,7 +6,7 @@ use Prim.Native.Nat.{ℕ, suc, _+_, _-_, _≤_, _<_}
 use native.Mathlib.Omega.{arith}
 use borrow.Author.Tests.{eq-eqb, ne-eqb, lt-ltb, le-ltb}
 use lib.Dec.{eqb}
-use lib.ListN.{length, drop, take, length-drop}
+use lib.ListN.{length, getD, drop, take, length-drop}
 use Rattle.tagged.specs.Lines.{Name, Line, heading, broader, narrower, other, newline, isName, same, bt, nt, lineOf, linesFrom, linesOf}
 use Rattle.tagged.specs.Listing.{headingsOf}
 use Rattle.listings.specs.Places.{runOf, endOf, bytesOf}
@@ -14,8 +14,8 @@ use Rattle.listings.specs.InCode.{lineBy}
 use Rattle.listings.specs.Judging.{kindOf, worth, goodLines, FormsAs, nextHeading, nameAt, lineAt}
 use Rattle.listings.specs.declared.lines.Form.{Form}
 use Rattle.listings.specs.declared.lines.Form.the-variants.{Heading, Broader, Narrower, Other}
-use Rattle.listings.proofs.LineWays.{end-past, line-at, line-cut-at, lines-past}
-use Rattle.listings.proofs.NameWays.{bytes-none}
+use Rattle.listings.proofs.LineWays.{end-past, end-later, end-after, line-at, line-cut-at, lines-past}
+use Rattle.listings.proofs.NameWays.{bytes-none, name-space}
 use Rattle.listings.proofs.TagWays.{tag-long, name-behind, line-broader, line-no-broader, line-narrower, line-no-narrower, line-heading, line-other}
 
 -- ---- a line ends in the listing
@@ -240,3 +240,25 @@ module _ (s : List ℕ) (lines headings at : ℕ) (so : FormsSoFar s lines headi
           all = omega (arith, so .all, ap length one);
           heads = omega (arith, so .heads, ap (λ l. length (headingsOf l)) one, heads-some headings rest (lineAt s at) not-0);
         }
+
+-- ---- no heading opens with a space
+
+heading-named : (bs : List ℕ) → kindOf (lineOf bs) ≡ 1 → isName bs ≡ true
+heading-named bs is = by (same (take 5 bs) bt) refl (same (take 5 bs) nt) refl (isName bs) refl (isName (drop 5 bs)) refl
+  where
+    by : (b : Bool) → same (take 5 bs) bt ≡ b → (n : Bool) → same (take 5 bs) nt ≡ n → (w : Bool) → isName bs ≡ w → (d : Bool) → isName (drop 5 bs) ≡ d → isName bs ≡ true
+    by b e n f true g d h = g
+    by true b n e false f true d = absurd (omega (arith, is, ap kindOf (line-broader bs b d)))
+    by true b n e false f false d = absurd (omega (arith, is, ap kindOf (line-no-broader bs b d)))
+    by false b true e false f true d = absurd (omega (arith, is, ap kindOf (line-narrower bs b e d)))
+    by false b true e false f false d = absurd (omega (arith, is, ap kindOf (line-no-narrower bs b e d)))
+    by false b false e false f d g = absurd (omega (arith, is, ap kindOf (line-other bs b e f)))
+
+pub spaced : (s : List ℕ) (p : ℕ) → p < length s → getD s p 0 ≡ 32 → kindOf (lineAt s p) ≡ 1 → ⊥
+spaced s p there is kind =
+    let on = end-later s p there (λ e. omega arith) in
+    let later = end-after s (p + 1) in
+    let none = name-space s p (endOf s p) (omega arith) there is in
+    let z : true ≡ false = sym (heading-named (nameAt s p) kind) ∙ none in
+    let o : _≡_ {A = ℕ} 0 1 = cc in
+    omega arith

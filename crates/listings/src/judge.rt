@@ -388,6 +388,12 @@ fn next_heading(s: &[u8], g: usize, at: usize) -> usize
     requires { ⌜ (g ≤ length (now s)) × (at ≤ length (now s)) ⌝ }
     ensures { λ r. ⌜ (r ≤ length (now (s .entry))) × (nameAt (now (s .entry)) r ≡ nextHeading (nameAt (now (s .entry)) g) (lineAt (now (s .entry)) at)) ⌝ }
 {
+    // no heading opens with a space
+    if at < s.len() {
+        if s[at] == 32 {
+            return g;
+        }
+    }
     let kind = kind_at(s, at);
     if kind == 1 {
         return at;

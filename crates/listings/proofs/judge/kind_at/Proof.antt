@@ -1,3 +1,4 @@
+-- `kind_at` meets its contract.
 use native.Mathlib.Omega.{arith}
 use borrow.Author.Needs.{needs}
 use Rattle.listings.specs.Judging.{nameAt}
@@ -5,16 +6,10 @@ use Rattle.listings.proofs.LineWays.{end-after}
 use Rattle.listings.proofs.JudgeWays.{end-within, kind-heading, kind-broader, kind-narrower, kind-other}
 use Rattle.listings.proofs.judge.kind_at.Statement.{statement}
 use Rattle.listings.proofs.judge.kind_at.Tie as tie
-use Rattle.listings.proofs.judge.kind_at.Reads as reads
-use Rattle.listings.proofs.judge.kind_at.Lts as lts
-use Rattle.listings.proofs.lines.form_of.Reads as form-of-reads
-use Rattle.listings.proofs.lines.line_end.Reads as line-end-reads
 
--- src/judge.rt:36:9
 line-end-requires : tie.Need-line-end-requires
 line-end-requires c κs = search needs
 
--- src/judge.rt:37:9
 form-of-requires : tie.Need-form-of-requires
 form-of-requires c κs =
     let a = c .before .before .args in
@@ -24,23 +19,18 @@ form-of-requires c κs =
     let within = end-within s (a .at) (omega arith) in
     (omega arith, omega arith)
 
--- src/judge.rt:39:26
 enum-told : tie.Need-enum-told
 enum-told c = search needs
 
--- src/judge.rt:40:26
 enum-told-2 : tie.Need-enum-told-2
 enum-told-2 c = search needs
 
--- src/judge.rt:41:27
 enum-told-3 : tie.Need-enum-told-3
 enum-told-3 c = search needs
 
--- src/judge.rt:42:24
 enum-told-4 : tie.Need-enum-told-4
 enum-told-4 c = search needs
 
--- src/judge.rt:32:1
 returns : tie.Need-returns
 returns c =
     let a = c .before .before .before .before .before .args in
@@ -48,7 +38,6 @@ returns c =
     let to = c .before .before .before .line-end .ensures in
     kind-heading (found .result) (nameAt (a .s .now) (a .at)) (rw to at (found .ensures)) (c .enum-told .given .1)
 
--- src/judge.rt:32:1
 returns-2 : tie.Need-returns-2
 returns-2 c =
     let a = c .before .before .before .before .before .args in
@@ -56,7 +45,6 @@ returns-2 c =
     let to = c .before .before .before .line-end .ensures in
     kind-broader (found .result) (nameAt (a .s .now) (a .at)) (rw to at (found .ensures)) (c .enum-told2 .given .1)
 
--- src/judge.rt:32:1
 returns-3 : tie.Need-returns-3
 returns-3 c =
     let a = c .before .before .before .before .before .args in
@@ -64,7 +52,6 @@ returns-3 c =
     let to = c .before .before .before .line-end .ensures in
     kind-narrower (found .result) (nameAt (a .s .now) (a .at)) (rw to at (found .ensures)) (c .enum-told3 .given .1)
 
--- src/judge.rt:32:1
 returns-4 : tie.Need-returns-4
 returns-4 c =
     let a = c .before .before .before .before .before .args in
