@@ -33,7 +33,8 @@ pub record Answers (broader : Broader) (row : List ℕ) (o : Saved.Outcome) : Ty
   -- "A circle is reported exactly if one exists."
   pub reported : HasCircle broader ↔ (0 < o .result .circle)
   -- "the shortest circle of headings, the first in number order"; the rest of the row is as it was
-  pub circleIs : 0 < o .result .circle → FirstCircle broader (take (o .result .circle) (o .row)) × (drop (o .result .circle) (o .row) ≡ drop (o .result .circle) row)
+  pub circleIs : 0 < o .result .circle
+      → FirstCircle broader (take (o .result .circle) (o .row)) × (drop (o .result .circle) (o .row) ≡ drop (o .result .circle) row)
   -- "a level for every heading, the longest chain of BT hops above it"; the rest of the row is as it was
   pub levelsAre : o .result .circle ≡ 0
       → ((x : ℕ) → x < length broader → IsLevel broader x (getD (o .row) x 0)) × (drop (length broader) (o .row) ≡ drop (length broader) row)
