@@ -6,3 +6,4 @@ pub mod Deeds
 pub mod InTime
 pub mod Starves
 pub mod OfTheCode
+pub mod OtherMemory

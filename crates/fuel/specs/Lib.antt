@@ -1,2 +1,3 @@
 pub mod MoreFuel
 pub mod NobodyStarves
+pub mod OtherMemory

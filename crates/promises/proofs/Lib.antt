@@ -4,3 +4,4 @@ pub mod OneOutcome
 pub mod OneOutcomeOf
 pub mod Converting
 pub mod Listings
+pub mod Fuel
