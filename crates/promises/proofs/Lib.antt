@@ -5,3 +5,4 @@ pub mod OneOutcomeOf
 pub mod Converting
 pub mod Listings
 pub mod Fuel
+pub mod Desk

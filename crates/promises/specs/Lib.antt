@@ -1,3 +1,4 @@
 pub mod Promises
 pub mod Conversions
 pub mod Listings
+pub mod Desk
