@@ -1,5 +1,5 @@
--- More fuel, of the code. Corollaries of the contract of `run::run` alone: the premises about `after` are what it ensures of calls with the same
--- book and question, on the same lent memory (nodes, list and answers): of two with fuel F and with k more, and of each with fuel enough.
+-- Nobody starves, of the code. The premises about `after` are what the contract of `run::run` ensures of calls with the same book and question, on the same lent
+-- memory (nodes, list and answers), with fuel enough. (More fuel, of two calls: crate `promises`, Fuel.antt.)
 use mathlib.Core.Path.{_≡_, sym, subst}
 use mathlib.Core.Logic.{_⊎_}
 use mathlib.Core.List.{List}
@@ -14,18 +14,8 @@ use Rattle.rewriting.specs.Rewriting.{Value}
 use Rattle.meaning.specs.Demand3.{Reachable}
 use Rattle.run.specs.declared.whole.Outcome.{Outcome as CodeOutcome}
 use Rattle.run.specs.Outcomes.{after}
-use Rattle.fuel.specs.MoreFuel.{MoreFuel}
 use Rattle.fuel.specs.NobodyStarves.{Written, Refused}
-use Rattle.fuel.proofs.Kept.{more-fuel}
 use Rattle.fuel.proofs.Starves.{nobody-starves}
-
-module _ (book question : List ℕ) (lent : Memory) (F k : ℕ) where
-  -- MORE FUEL of two calls: of the results r and r′, and of lent memory after each
-  pub calls-kept : (r r′ : CodeOutcome) (nodes nodes′ answers answers′ : List ℕ) (list list′ : List LentEntry)
-      → after r nodes list answers ≡ run book question F lent
-      → after r′ nodes′ list′ answers′ ≡ run book question (F + k) lent
-      → MoreFuel k (after r nodes list answers) (after r′ nodes′ list′ answers′)
-  calls-kept r r′ nodes nodes′ answers answers′ list list′ less more = rw (less, more) (more-fuel book question lent F k)
 
 module _ (book question : List ℕ) (lent : Memory) {rules : Rules} {x : Expr} {p q : ℕ} (admitted : readBook book ≡ got rules p)
     (asked : readQuestion (rules .symbols) question ≡ got x q) (v : Value) (reaches : Reachable rules x v) where

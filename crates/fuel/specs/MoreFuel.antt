@@ -1,5 +1,5 @@
 -- MORE FUEL never takes an answer back: what is promised of two runs of the same book and question in the same lent memory, the second
--- with more fuel. That it is kept is proved in proofs/Kept.antt, and of the code in proofs/OfTheCode.antt.
+-- with more fuel. That it is kept is proved in proofs/Kept.antt, and of calls in crate `promises`.
 use mathlib.Core.Path.{_≡_}
 use mathlib.Core.Logic.{_⊎_, _≢_}
 use mathlib.Core.List.{List, _∷_, _++_}
