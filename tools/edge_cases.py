@@ -4,7 +4,7 @@
 A row of stdin: a label (two-byte length, text), how many node numbers, list places and answer bytes are lent (two bytes each), the fuel
 (four bytes), a book and a question (two-byte length, bytes). Its lines of stdout: first the label, the seven result numbers, and a checksum of
 all the node numbers, all the list places and all the answer bytes that the program has, lent or not: 32,010, 100 and 16,400. Before a run each
-number is 48,879, each place has root 7 and all open, each byte is 170. A checksum begins at 0 and becomes (c * 31 + v) % 2^32 for each
+number is 48,879, each place has root 7, choice 3 decided left and choice 200 right, each byte is 170. A checksum begins at 0 and becomes (c * 31 + v) % 2^32 for each
 number v; an entry's are its root and its 256 decisions (0 open, 1 left, 2 right). Then a line for each answer as `expand` prints it: `A`, the
 symbols, `|`, the decision numbers.
 
@@ -638,7 +638,7 @@ case('8,185 firsts in firsts in a rule: a forward', (0, 0, 2, 1, 2, 0, 0), Left(
      deep_rule, asked(apply(NEW)), numbers=20)
 
 # ---- the archive's example, with the fuel that its file has; README.md says what its six answers mean
-dolly = open(os.path.join(repository, 'examples', 'corn-dollies'), 'rb').read()
+dolly = open(os.path.join(here, 'corn-dollies.input'), 'rb').read()
 end = 2 + int.from_bytes(dolly[:2], 'big')
 dolly_book = dolly[2:end]
 dolly_question = dolly[end + 2:-4]
@@ -682,7 +682,7 @@ def by_hand(label, result, left, places):
         counts = (len(left.nodes), len(left.waiting))
         assert counts == (result[4], result[6]), (counts, result)
     if not left or left.nodes:
-        entries += [entry(7, {})] * (PLACES - len(entries))
+        entries += [entry(7, {3: 1, 200: 2})] * (PLACES - len(entries))
         sums[:2] = checksum(whole(nodes, 48879, NUMBERS)), checksum(n for e in entries for n in e)
     sums[2] = checksum(whole(list(written), 170, BYTES))
     return ['{}: {} {} {} {} {} {} {}; nodes {} list {} bytes {}'.format(label, *result, *sums)] + shown

@@ -10,7 +10,7 @@ use crate::seen::Seen;
 use crate::sizes::{ENTRIES, NODES};
 use crate::text::checksum;
 
-/// How long each memory is, lent or not, and what stands in it before a run; a list place has a root and all open.
+/// How long each memory is, lent or not, and what stands in it before a run; a list place has a root, choice 3 decided left and choice 200 right.
 const NODE_NUMBERS: usize = 32_010;
 const PLACES: usize = 100;
 const ANSWER_BYTES: usize = 16_400;
@@ -83,7 +83,9 @@ fn whole<T: Clone>(lent: Vec<T>, mark: T, length: usize) -> Vec<T> {
 /// The lines of a row.
 fn lines(row: &Row, seen: &mut Seen) -> String {
     assert!(row.nodes <= NODE_NUMBERS && row.places <= PLACES && row.answer_bytes <= ANSWER_BYTES);
-    let place = Entry::new(ROOT_MARK);
+    let mut place = Entry::new(ROOT_MARK);
+    place.decisions[3] = Decision::Left;
+    place.decisions[200] = Decision::Right;
     let mut memory = Memory {
         nodes: vec![NODE_MARK; row.nodes],
         list: vec![place.clone(); row.places],

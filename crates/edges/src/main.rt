@@ -66,7 +66,7 @@ fn show_run<'a>(given: &'a [u8], book: &'a [u8], question: &'a [u8]) {
     io::write_all(1, b":");
     let mut nodes = [48879u16; NUMBERS];
     let mut bytes = [170u8; BYTES];
-    let list = [Entry::of(7, Limits::all_open()); Owned::HELD];
+    let list = [Entry::of(7, marked()); Owned::HELD];
     let r = run_owned(
         book,
         question,
@@ -91,6 +91,11 @@ fn sum_of_list(list: [Entry; Owned::HELD]) -> u32 {
         i += 1;
     }
     c
+}
+
+// What the places hold before a run: neither all open nor all decided, so that clearing and keeping are both seen.
+fn marked() -> Decisions {
+    Limits::all_open().decide(3, false).decide(200, true)
 }
 
 // A checksum with the 256 decisions of a set in it.
