@@ -14,6 +14,7 @@ pub mod TwiceBlocks
 pub mod TwicePairs
 pub mod TwiceWays
 pub mod MirrorWays
+pub mod MeetWays
 pub mod JudgeParts
 pub mod MirrorParts
 pub mod JudgeWhole

@@ -4,5 +4,6 @@ pub mod TermRows
 pub mod Gathering
 pub mod Judging
 pub mod Blocks
+pub mod Meeting
 pub mod Saving
 pub mod Putting

@@ -1,8 +1,9 @@
 // Whether a listing is good: 40 and 41 line by line, then 42.
+ghost use mathlib.Core.Bool.{true};
 ghost use mathlib.Core.Path.{_≡_};
 ghost use mathlib.Core.List.{[]};
 ghost use Prim.Native.Nat.{ℕ, _-_, _≤_, _<_};
-ghost use lib.ListN.{length, take};
+ghost use lib.ListN.{length, take, getD};
 ghost use Rattle.tagged.specs.Lines.{linesOf};
 ghost use Rattle.tagged.specs.Listing.{broaderIn};
 ghost use Rattle.listings.specs.TermRows.{JudgedAs};
@@ -11,6 +12,7 @@ ghost use Rattle.listings.specs.Blocks.{hashOf, tableSize, nameOf, Insid
 ghost use Rattle.listings.specs.Blocks.{Begins, FilledAs, KnownBy, KnownFirst};
 ghost use Rattle.listings.specs.Judging.{kindOf, worth, FormsAs, twiceFrom, nameAt, lineAt};
 ghost use Rattle.listings.specs.Judging.{mirrorLines, nextHeading, mirrorIn, wants, unmirroredFrom};
+ghost use Rattle.listings.specs.Meeting.{Under, Met};
 use super::lines::Form;
 use super::lines::form_of;
 use super::lines::line_end;
@@ -422,13 +424,235 @@ fn has_mirror(s: &[u8], h: usize, p: usize) -> bool
     false
 }
 
-// The line at p, under the heading at h, is a BT or NT without its mirror.
-fn lacks_mirror(s: &[u8], h: usize, p: usize) -> bool
-    requires { ⌜ (h ≤ length (now s)) × (p ≤ length (now s)) ⌝ }
+// A line's key, by the hashes of its heading's name and the name in it: its mirror, where the two are exchanged, has the same.
+fn key_of(s: &[u8], from: usize, to: usize, start: usize, end: usize) -> usize
+    requires { ⌜ (to ≤ length (now s)) × (end ≤ length (now s)) ⌝ }
+    ensures { λ r. ⌜ r < tableSize ⌝ }
+{
+    let first = hash_of(s, from, to);
+    let second = hash_of(s, start, end);
+    (first + second) % TABLE
+}
+
+// The line at p, under the heading at g, is noted as entry k, and linked to the last entry with its key.
+fn note_line(
+    s: &[u8],
+    g: usize,
+    p: usize,
+    k: usize,
+    place: &mut [usize; TABLE],
+    head: &mut [usize; TABLE],
+    before: &mut [usize; TABLE],
+    last: &mut [usize; TABLE],
+)
+    requires { ⌜ (g ≤ length (now s)) × (p ≤ length (now s)) × (k < tableSize) ⌝ }
+{
+    let p_end = line_end(s, p);
+    let g_end = line_end(s, g);
+    let key = key_of(s, g, g_end, p + 5, p_end);
+    place[k] = p;
+    head[k] = g;
+    before[k] = last[key];
+    last[key] = k + 1;
+}
+
+// The lines from `at` on, the first of which stands under the heading at h, are noted, up to TABLE of them.
+fn note_lines(
+    s: &[u8],
+    h: usize,
+    at: usize,
+    place: &mut [usize; TABLE],
+    head: &mut [usize; TABLE],
+    before: &mut [usize; TABLE],
+    last: &mut [usize; TABLE],
+)
+    requires { ⌜ (h ≤ length (now s)) × (at ≤ length (now s)) ⌝ }
+{
+    let mut g = h;
+    let mut p = at;
+    let mut k: usize = 0;
+    while p < s.len() {
+        let to = line_end(s, p);
+        if s.len() <= to {
+            return;
+        }
+        if TABLE <= k {
+            return;
+        }
+        note_line(s, g, p, k, place, head, before, last);
+        g = next_heading(s, g, p);
+        k += 1;
+        p = to + 1;
+    }
+}
+
+// Entry k is met if the line at q, under the heading at g, is its mirror. True if it was met before: so were then all those like it.
+fn meet_entry(
+    s: &[u8],
+    g: usize,
+    q: usize,
+    k: usize,
+    place: &[usize; TABLE],
+    head: &[usize; TABLE],
+    met: &mut [usize; TABLE],
+) -> bool
+    requires { ⌜ Under (now s) g q ⌝ ∗ ⌜ Met (now s) (now place) (now head) (now met) ⌝ ∗ ⌜ k < tableSize ⌝ }
+    ensures { λ _. ⌜ Met (now (s .entry)) (now (place .entry)) (now (head .entry)) (now (met .exit)) ⌝ }
+{
+    let p = place[k];
+    let h = head[k];
+    if s.len() < p {
+        return false;
+    }
+    if s.len() < h {
+        return false;
+    }
+    if is_mirror(s, h, p, g, q) {
+        if met[k] == 1 {
+            return true;
+        }
+        met[k] = 1;
+        return false;
+    }
+    false
+}
+
+// The entries whose mirror is the line at q, under the heading at g, are met: they are sought down the chain of its key.
+fn meet_line(
+    s: &[u8],
+    g: usize,
+    q: usize,
+    place: &[usize; TABLE],
+    head: &[usize; TABLE],
+    before: &[usize; TABLE],
+    last: &[usize; TABLE],
+    met: &mut [usize; TABLE],
+)
+    requires { ⌜ Under (now s) g q ⌝ ∗ ⌜ Met (now s) (now place) (now head) (now met) ⌝ }
+    ensures { λ _. ⌜ Met (now (s .entry)) (now (place .entry)) (now (head .entry)) (now (met .exit)) ⌝ }
+{
+    let g_end = line_end(s, g);
+    let q_end = line_end(s, q);
+    let key = key_of(s, g, g_end, q + 5, q_end);
+    let mut i = last[key];
+    while i != 0 {
+        if TABLE < i {
+            return;
+        }
+        if meet_entry(s, g, q, i - 1, place, head, met) {
+            return;
+        }
+        let next = before[i - 1];
+        if i <= next {
+            return;
+        }
+        i = next;
+    }
+}
+
+// All lines of the listing: each meets the entries whose mirror it is.
+fn meet_lines(
+    s: &[u8],
+    place: &[usize; TABLE],
+    head: &[usize; TABLE],
+    before: &[usize; TABLE],
+    last: &[usize; TABLE],
+    met: &mut [usize; TABLE],
+)
+    requires { ⌜ Met (now s) (now place) (now head) (now met) ⌝ }
+    ensures { λ _. ⌜ Met (now (s .entry)) (now (place .entry)) (now (head .entry)) (now (met .exit)) ⌝ }
+{
+    let mut g = s.len();
+    let mut at: usize = 0;
+    while at < s.len() {
+        let to = line_end(s, at);
+        if s.len() <= to {
+            return;
+        }
+        meet_line(s, g, at, place, head, before, last, met);
+        g = next_heading(s, g, at);
+        at = to + 1;
+    }
+}
+
+// Entry k is the line at p, under the heading at h.
+fn is_noted(h: usize, p: usize, k: usize, place: &[usize; TABLE], head: &[usize; TABLE]) -> bool
+    ensures { λ r. ⌜ (r ≡ true → (k < tableSize) × (getD (now (place .entry)) k 0 ≡ p) × (getD (now (head .entry)) k 0 ≡ h)) ⌝ }
+{
+    if TABLE <= k {
+        return false;
+    }
+    if place[k] != p {
+        return false;
+    }
+    if head[k] != h {
+        return false;
+    }
+    true
+}
+
+// The entry of the line at p, under the heading at h: it is k, or the lines from there on are noted and met anew.
+fn entry_at(
+    s: &[u8],
+    h: usize,
+    p: usize,
+    k: usize,
+    place: &mut [usize; TABLE],
+    head: &mut [usize; TABLE],
+    met: &mut [usize; TABLE],
+) -> usize
+    requires { ⌜ (h ≤ length (now s)) × (p ≤ length (now s)) ⌝ ∗ ⌜ Met (now s) (now place) (now head) (now met) ⌝ }
+    ensures { λ r. ⌜ r ≤ k ⌝ ∗ ⌜ Met (now (s .entry)) (now (place .exit)) (now (head .exit)) (now (met .exit)) ⌝ }
+{
+    if is_noted(h, p, k, place, head) {
+        return k;
+    }
+    let mut before = [0usize; TABLE];
+    let mut last = [0usize; TABLE];
+    clear(met);
+    note_lines(s, h, p, place, head, &mut before, &mut last);
+    meet_lines(s, place, head, &before, &last, met);
+    0
+}
+
+// Entry k is the line at p, under the heading at h, and it is met.
+fn is_met(
+    h: usize,
+    p: usize,
+    k: usize,
+    place: &[usize; TABLE],
+    head: &[usize; TABLE],
+    met: &[usize; TABLE],
+) -> bool
+    ensures { λ r. ⌜ (r ≡ true → (getD (now (place .entry)) k 0 ≡ p) × (getD (now (head .entry)) k 0 ≡ h) × (getD (now (met .entry)) k 0 ≡ 1)) ⌝ }
+{
+    if is_noted(h, p, k, place, head) {
+        if met[k] == 1 {
+            return true;
+        }
+        return false;
+    }
+    false
+}
+
+// The line at p, under the heading at h, is a BT or NT without its mirror. Only one that has not been met is sought among all lines.
+fn lacks_mirror(
+    s: &[u8],
+    h: usize,
+    p: usize,
+    k: usize,
+    place: &[usize; TABLE],
+    head: &[usize; TABLE],
+    met: &[usize; TABLE],
+) -> bool
+    requires { ⌜ (h ≤ length (now s)) × (p ≤ length (now s)) ⌝ ∗ ⌜ Met (now s) (now place) (now head) (now met) ⌝ }
     ensures { λ r. ⌜ r ≡ wants (linesOf (now (s .entry))) (nameAt (now (s .entry)) h) (lineAt (now (s .entry)) p) ⌝ }
 {
     let kind = kind_at(s, p);
     if kind < 2 {
+        return false;
+    }
+    if is_met(h, p, k, place, head, met) {
         return false;
     }
     if has_mirror(s, h, p) {
@@ -437,23 +661,30 @@ fn lacks_mirror(s: &[u8], h: usize, p: usize) -> bool
     true
 }
 
-// "42 a BT or NT whose mirror line is missing": the first such line; 0 if there is none. Each line is sought among all: some lines * lines steps.
+// "42 a BT or NT whose mirror line is missing": the first such line; 0 if there is none. TABLE lines at a time are noted, and all lines looked up among them:
+// some lines * lines / TABLE look-ups for names whose hashes lie apart. That a line is met tells that it has its mirror; one that is not met is sought among all.
 fn first_unmirrored(s: &[u8]) -> usize
     ensures { λ r. ⌜ r ≡ unmirroredFrom (linesOf (now (s .entry))) [] 1 (linesOf (now (s .entry))) ⌝ }
 {
+    let mut place = [0usize; TABLE];
+    let mut head = [0usize; TABLE];
+    let mut met = [0usize; TABLE];
     let mut h = s.len();
     let mut line: usize = 1;
     let mut at: usize = 0;
+    let mut k: usize = 0;
     while at < s.len() {
         let to = line_end(s, at);
         if s.len() <= to {
             return 0;
         }
-        if lacks_mirror(s, h, at) {
+        let e = entry_at(s, h, at, k, &mut place, &mut head, &mut met);
+        if lacks_mirror(s, h, at, e, &place, &head, &met) {
             return line;
         }
         h = next_heading(s, h, at);
         line += 1;
+        k = e + 1;
         at = to + 1;
     }
     0

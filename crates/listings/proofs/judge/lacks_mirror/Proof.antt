@@ -18,21 +18,39 @@ returns c =
     let s = a .s .now in
     wants-no (linesOf s) (nameAt s (a .h)) (lineAt s (a .p)) (omega (arith, c .before .kind-at .ensures, c .if1 .taken))
 
-has-mirror-requires : tie.Need-has-mirror-requires
-has-mirror-requires c κs = search needs
+is-met-requires : tie.Need-is-met-requires
+is-met-requires c κs = search needs
 
 returns-2 : tie.Need-returns-2
 returns-2 c =
     let a = c .before .before .before .before .before .args in
     let s = a .s .now in
-    wants-has (linesOf s) (nameAt s (a .h)) (lineAt s (a .p)) (sym (c .before .has-mirror .ensures) ∙ c .if2 .taken)
+    let m = c .before .is-met .ensures (c .if2 .taken) in
+    wants-has (linesOf s) (nameAt s (a .h)) (lineAt s (a .p)) (rw (m .0, m .1) at (c .before .before .before .before .before .pre .1 .1 (a .k) (m .2)))
+
+has-mirror-requires : tie.Need-has-mirror-requires
+has-mirror-requires c κs = search needs
 
 returns-3 : tie.Need-returns-3
 returns-3 c =
-    let a = c .before .before .before .before .before .args in
+    let a = c .before .before .before .before .before .before .before .args in
     let s = a .s .now in
-    wants-lacks (linesOf s) (nameAt s (a .h)) (lineAt s (a .p)) (omega (arith, c .before .before .before .kind-at .ensures, c .before .before .if1 .left)) (sym (c .before .has-mirror .ensures) ∙ c .if2 .left)
+    wants-has (linesOf s) (nameAt s (a .h)) (lineAt s (a .p)) (sym (c .before .has-mirror .ensures) ∙ c .if3 .taken)
+
+returns-4 : tie.Need-returns-4
+returns-4 c =
+    let a = c .before .before .before .before .before .before .before .args in
+    let s = a .s .now in
+    wants-lacks (linesOf s) (nameAt s (a .h)) (lineAt s (a .p)) (omega (arith, c .before .before .before .before .before .kind-at .ensures, c .before .before .before .before .if1 .left)) (sym (c .before .has-mirror .ensures) ∙ c .if3 .left)
 
 pub lacks-mirror-spec : {M : Type 1} → statement M
 lacks-mirror-spec =
-    tie.close (tie.spec kind-at-requires returns has-mirror-requires returns-2 returns-3)
+    tie.close
+    (tie.spec
+    kind-at-requires
+    returns
+    is-met-requires
+    returns-2
+    has-mirror-requires
+    returns-3
+    returns-4)
