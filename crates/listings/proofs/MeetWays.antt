@@ -54,7 +54,8 @@ module _ (s place head : List ℕ) where
   pub met-start : Met s place head (replicate {A = ℕ} 8192 0)
   met-start = (length-replicate {A = ℕ} 8192 0, λ k is. absurd (omega (arith, zero-all 8192 k (decLt k 8192))))
 
-  pub met-more : (met : List ℕ) → Met s place head met → (k : ℕ) → mirrorIn (nameAt s (getD head k 0)) (lineAt s (getD place k 0)) [] (linesOf s) ≡ true → Met s place head (set met k 1)
+  pub met-more : (met : List ℕ) → Met s place head met → (k : ℕ) → mirrorIn (nameAt s (getD head k 0)) (lineAt s (getD place k 0)) [] (linesOf s) ≡ true
+      → Met s place head (set met k 1)
   met-more met so k has = (length-set met k 1 ∙ so .0, λ j is. by j is (ℕ-discrete j k))
     where
       by : (j : ℕ) → getD (set met k 1) j 0 ≡ 1 → Dec (j ≡ k) → mirrorIn (nameAt s (getD head j 0)) (lineAt s (getD place j 0)) [] (linesOf s) ≡ true

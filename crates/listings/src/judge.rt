@@ -424,17 +424,48 @@ fn has_mirror(s: &[u8], h: usize, p: usize) -> bool
     false
 }
 
-// A line's key, by the hashes of its heading's name and the name in it: its mirror, where the two are exchanged, has the same.
-fn key_of(s: &[u8], from: usize, to: usize, start: usize, end: usize) -> usize
-    requires { ⌜ (to ≤ length (now s)) × (end ≤ length (now s)) ⌝ }
-    ensures { λ r. ⌜ r < tableSize ⌝ }
+// A number for the bytes from `from` to `until`. Which one, and so what is noted under it, counts for the time alone: a line is met only by `is_mirror`.
+fn mix_of(s: &[u8], from: usize, until: usize) -> usize
+    requires { ⌜ until ≤ length (now s) ⌝ }
+    ensures { λ r. ⌜ r < 1048576 ⌝ }
 {
-    let first = hash_of(s, from, to);
-    let second = hash_of(s, start, end);
-    (first + second) % TABLE
+    let mut h: usize = 0;
+    let mut i = from;
+    while i < until {
+        h = (h * 31 + wide(s[i])) % 1048576;
+        i += 1;
+    }
+    h
 }
 
-// The line at p, under the heading at g, is noted as entry k, and linked to the last entry with its key.
+// By the first letter alone: 1 a BT, 2 an NT, 0 a heading's own line.
+fn side_at(s: &[u8], p: usize) -> usize
+    requires { ⌜ p ≤ length (now s) ⌝ }
+    ensures { λ r. ⌜ r < 3 ⌝ }
+{
+    if s.len() <= p + 2 {
+        return 0;
+    }
+    if s[p] != 32 {
+        return 0;
+    }
+    if s[p + 2] == 66 {
+        return 1;
+    }
+    2
+}
+
+// The key of a BT or NT, by the name of its heading, the name in it, and which of the two it is. Its mirror has the names exchanged, and the other side.
+fn key_of(s: &[u8], from: usize, to: usize, start: usize, end: usize, side: usize) -> usize
+    requires { ⌜ (to ≤ length (now s)) × (end ≤ length (now s)) × (side ≤ 3) ⌝ }
+    ensures { λ r. ⌜ r < tableSize ⌝ }
+{
+    let first = mix_of(s, from, to);
+    let second = mix_of(s, start, end);
+    (first * 7919 + second + side) % TABLE
+}
+
+// The line at p, under the heading at g, is noted as entry k, and linked to the last entry whose mirror has the same key.
 fn note_line(
     s: &[u8],
     g: usize,
@@ -449,7 +480,8 @@ fn note_line(
 {
     let p_end = line_end(s, p);
     let g_end = line_end(s, g);
-    let key = key_of(s, g, g_end, p + 5, p_end);
+    let side = side_at(s, p);
+    let key = key_of(s, p + 5, p_end, g, g_end, 3 - side);
     place[k] = p;
     head[k] = g;
     before[k] = last[key];
@@ -531,9 +563,13 @@ fn meet_line(
     requires { ⌜ Under (now s) g q ⌝ ∗ ⌜ Met (now s) (now place) (now head) (now met) ⌝ }
     ensures { λ _. ⌜ Met (now (s .entry)) (now (place .entry)) (now (head .entry)) (now (met .exit)) ⌝ }
 {
+    let side = side_at(s, q);
+    if side == 0 {
+        return;
+    }
     let g_end = line_end(s, g);
     let q_end = line_end(s, q);
-    let key = key_of(s, g, g_end, q + 5, q_end);
+    let key = key_of(s, g, g_end, q + 5, q_end, side);
     let mut i = last[key];
     while i != 0 {
         if TABLE < i {
@@ -662,7 +698,7 @@ fn lacks_mirror(
 }
 
 // "42 a BT or NT whose mirror line is missing": the first such line; 0 if there is none. TABLE lines at a time are noted, and all lines looked up among them:
-// some lines * lines / TABLE look-ups for names whose hashes lie apart. That a line is met tells that it has its mirror; one that is not met is sought among all.
+// some lines * lines / TABLE look-ups for names whose hashes lie apart. A line that is met has its mirror; one that is not is sought among all.
 fn first_unmirrored(s: &[u8]) -> usize
     ensures { λ r. ⌜ r ≡ unmirroredFrom (linesOf (now (s .entry))) [] 1 (linesOf (now (s .entry))) ⌝ }
 {

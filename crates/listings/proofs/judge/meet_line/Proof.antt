@@ -10,10 +10,16 @@ use Rattle.listings.proofs.judge.meet_line.Statement.{statement}
 use Rattle.listings.proofs.judge.meet_line.Tie as tie
 
 abbrev Inv-loop : tie.InvT-loop
-Inv-loop s g q place head before last met₀ to end key i₀ met i = Met s place head met
+Inv-loop s g q place head before last met₀ side to end key i₀ met i = Met s place head met
 
 abbrev μ-loop : tie.MeasureT-loop
-μ-loop s g q place head before last met₀ to end key i₀ met i = i
+μ-loop s g q place head before last met₀ side to end key i₀ met i = i
+
+side-at-requires : tie.Need-side-at-requires Inv-loop μ-loop
+side-at-requires c κs = c .before .pre .0 .there
+
+returns : tie.Need-returns Inv-loop μ-loop
+returns c = c .before .before .before .pre .1
 
 line-end-requires : tie.Need-line-end-requires Inv-loop μ-loop
 line-end-requires c κs = search needs
@@ -23,18 +29,18 @@ line-end-requires-2 c κs = search needs
 
 add-key-of : tie.Need-add-key-of Inv-loop μ-loop
 add-key-of c =
-    let a = c .before .before .before .args in
-    let there : a .q ≤ length (a .s .now) = c .before .before .before .pre .0 .there in
+    let a = c .before .before .before .before .before .args in
+    let there : a .q ≤ length (a .s .now) = c .before .before .before .before .before .pre .0 .there in
     search needs
 
 key-of-requires : tie.Need-key-of-requires Inv-loop μ-loop
 key-of-requires c κs =
-    let a = c .before .before .before .args in
+    let a = c .before .before .before .before .before .args in
     let s = a .s .now in
-    let under = c .before .before .before .pre .0 in
+    let under = c .before .before .before .before .before .pre .0 in
     let g-end = c .before .line-end .ensures in
     let q-end = c .line-end2 .ensures in
-    (omega (arith, g-end, end-within s (a .g) (under .above)), omega (arith, q-end, end-within s (a .q) (under .there)))
+    (omega (arith, g-end, end-within s (a .g) (under .above)), omega (arith, q-end, end-within s (a .q) (under .there)), omega (arith, c .before .before .before .side-at .ensures))
 
 mul-i : tie.Need-mul-i Inv-loop μ-loop
 mul-i c = search needs
@@ -43,19 +49,19 @@ element-copy-out-i : tie.Need-element-copy-out-i Inv-loop μ-loop
 element-copy-out-i c = search needs
 
 loop-holds : tie.Need-loop-holds Inv-loop μ-loop
-loop-holds c = c .before .before .before .before .before .pre .1
+loop-holds c = c .before .before .before .before .before .before .before .pre .1
 
-returns : tie.Need-returns Inv-loop μ-loop
-returns c = c .before .before .loop .inv
+returns-2 : tie.Need-returns-2 Inv-loop μ-loop
+returns-2 c = c .before .before .loop .inv
 
 sub-meet-entry : tie.Need-sub-meet-entry Inv-loop μ-loop
 sub-meet-entry c = search needs
 
 meet-entry-requires : tie.Need-meet-entry-requires Inv-loop μ-loop
-meet-entry-requires c κs = (c .before .before .before .before .before .before .before .before .before .pre .0, (c .before .before .before .loop .inv, omega arith))
+meet-entry-requires c κs = (c .before .before .before .before .before .before .before .before .before .before .before .pre .0, (c .before .before .before .loop .inv, omega arith))
 
-returns-2 : tie.Need-returns-2 Inv-loop μ-loop
-returns-2 c = c .before .meet-entry .ensures
+returns-3 : tie.Need-returns-3 Inv-loop μ-loop
+returns-3 c = c .before .meet-entry .ensures
 
 sub-next : tie.Need-sub-next Inv-loop μ-loop
 sub-next c = search needs
@@ -66,17 +72,17 @@ mul-next c = search needs
 element-copy-out-next : tie.Need-element-copy-out-next Inv-loop μ-loop
 element-copy-out-next c = search needs
 
-returns-3 : tie.Need-returns-3 Inv-loop μ-loop
-returns-3 c = c .before .before .before .meet-entry .ensures
+returns-4 : tie.Need-returns-4 Inv-loop μ-loop
+returns-4 c = c .before .before .before .meet-entry .ensures
 
 loop-less : tie.Need-loop-less Inv-loop μ-loop
-loop-less c = omega (arith, c .if3 .left)
+loop-less c = omega (arith, c .if4 .left)
 
 loop-again : tie.Need-loop-again Inv-loop μ-loop
 loop-again c = c .before .before .before .meet-entry .ensures
 
-returns-4 : tie.Need-returns-4 Inv-loop μ-loop
-returns-4 c = c .before .loop .inv
+returns-5 : tie.Need-returns-5 Inv-loop μ-loop
+returns-5 c = c .before .loop .inv
 
 pub meet-line-spec : {M : Type 1} → statement M
 meet-line-spec =
@@ -84,6 +90,8 @@ meet-line-spec =
     (tie.spec
     Inv-loop
     μ-loop
+    side-at-requires
+    returns
     line-end-requires
     line-end-requires-2
     add-key-of
@@ -91,14 +99,14 @@ meet-line-spec =
     mul-i
     element-copy-out-i
     loop-holds
-    returns
+    returns-2
     sub-meet-entry
     meet-entry-requires
-    returns-2
+    returns-3
     sub-next
     mul-next
     element-copy-out-next
-    returns-3
+    returns-4
     loop-less
     loop-again
-    returns-4)
+    returns-5)

@@ -12,16 +12,22 @@ line-end-requires c κs = search needs
 line-end-requires-2 : tie.Need-line-end-requires-2
 line-end-requires-2 c κs = search needs
 
+side-at-requires : tie.Need-side-at-requires
+side-at-requires c κs = search needs
+
 add-key-of : tie.Need-add-key-of
 add-key-of c = search needs
 
+sub-key-of : tie.Need-sub-key-of
+sub-key-of c = search needs
+
 key-of-requires : tie.Need-key-of-requires
 key-of-requires c κs =
-    let a = c .before .before .before .args in
+    let a = c .before .before .before .before .args in
     let s = a .s .now in
-    let p-end = c .before .line-end .ensures in
-    let g-end = c .line-end2 .ensures in
-    (omega (arith, g-end, end-within s (a .g) (omega arith)), omega (arith, p-end, end-within s (a .p) (omega arith)))
+    let p-end = c .before .before .line-end .ensures in
+    let g-end = c .before .line-end2 .ensures in
+    (omega (arith, p-end, end-within s (a .p) (omega arith)), omega (arith, g-end, end-within s (a .g) (omega arith)), omega arith)
 
 mul-place : tie.Need-mul-place
 mul-place c = search needs
@@ -65,7 +71,9 @@ note-line-spec =
     (tie.spec
     line-end-requires
     line-end-requires-2
+    side-at-requires
     add-key-of
+    sub-key-of
     key-of-requires
     mul-place
     element-write-place
