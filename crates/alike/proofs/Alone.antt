@@ -22,7 +22,7 @@ use Rattle.machine.specs.Turn as Plain
 use Rattle.machine.specs.Turn.{Rooms}
 use Rattle.rewriting.specs.Lists.{All}
 use Rattle.rewriting.proofs.Steers.{Lawful}
-use Rattle.alike.specs.Shorten.{Following}
+use Rattle.forwards.specs.Shorten.{Following}
 use Rattle.alike.specs.Asked.{Answer}
 use Rattle.alike.specs.Turning as Later
 use Rattle.alike.specs.Turning.{State}

@@ -41,7 +41,7 @@ use Rattle.meaning.proofs.AllTurns.{Had, loaded-good}
 use Rattle.meaning.specs.Entries.{Fit}
 use Rattle.meaning.proofs.Turns.{Good, Kept, turn-kept}
 use Rattle.meaning.proofs.Walks.{Stepwise, Finds, walk-right}
-use Rattle.alike.specs.Shorten.{Following}
+use Rattle.forwards.specs.Shorten.{Following}
 use Rattle.alike.specs.Asked as Asked
 use Rattle.alike.specs.Asked.{Entry, Answer}
 use Rattle.alike.specs.Walking.{walk}

@@ -24,7 +24,7 @@ use Rattle.rewriting.specs.Rewriting.{Value}
 use Rattle.rewriting.specs.Lists.{All}
 use Rattle.rewriting.proofs.Steers.{Lawful}
 use Rattle.rewriting.proofs.Update.{update-same}
-use Rattle.alike.specs.Shorten.{Following}
+use Rattle.forwards.specs.Shorten.{Following}
 use Rattle.alike.specs.Asked as Asked
 use Rattle.alike.specs.Asked.{Entry, Answer}
 use Rattle.alike.specs.Turning as Later

@@ -23,7 +23,7 @@ use Rattle.machine.specs.Walk.{Found, Slot, arrowAt}
 use Rattle.machine.specs.Walk as PlainWalk
 use Rattle.machine.specs.Turn as Plain
 use Rattle.machine.specs.Turn.{Rooms}
-use Rattle.alike.specs.Shorten.{Following}
+use Rattle.forwards.specs.Shorten.{Following}
 use Rattle.alike.specs.Asked.{Entry, answerBytes}
 use Rattle.alike.specs.Walking.{walk}
 use Rattle.alike.specs.Turning as Later

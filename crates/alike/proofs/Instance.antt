@@ -21,7 +21,7 @@ use Rattle.machine.specs.Walk as PlainWalk
 use Rattle.machine.specs.Walk.{Found}
 use Rattle.machine.specs.Turn as Plain
 use Rattle.machine.specs.Turn.{Rooms}
-use Rattle.alike.specs.Shorten.{untouched}
+use Rattle.forwards.specs.Shorten.{untouched}
 use Rattle.alike.specs.Asked as Asked
 use Rattle.alike.specs.Asked.{Entry, Answer}
 use Rattle.alike.specs.Walking.{Walked, walk}

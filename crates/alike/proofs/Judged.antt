@@ -17,7 +17,7 @@ use Rattle.machine.specs.Turn.{Rooms}
 use Rattle.rewriting.specs.Rewriting.{Value}
 use Rattle.rewriting.proofs.Steers.{Lawful}
 use Rattle.meaning.proofs.Turns.{Good}
-use Rattle.alike.specs.Shorten.{Following}
+use Rattle.forwards.specs.Shorten.{Following}
 use Rattle.alike.specs.Walking.{walk}
 use Rattle.alike.specs.Asked.{Entry}
 use Rattle.alike.specs.Turning as Later

@@ -2,7 +2,7 @@
 use mathlib.Core.Path.{refl}
 use Rattle.machine.specs.Cases.{smallBook, D, loopOrFalse, answersOfD}
 use Rattle.machine.proofs.Computes.{entries, reading, symbols, expressions, trees, admission, nodes, steps, walking, answering, turning, running}
-use Rattle.alike.specs.Shorten as Shorten
+use Rattle.forwards.specs.Shorten as Shorten
 use Rattle.alike.specs.Walking as Walking
 use Rattle.alike.specs.Reuse as Reuse
 use Rattle.alike.specs.Asked as Asked

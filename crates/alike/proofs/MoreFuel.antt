@@ -16,7 +16,7 @@ use Rattle.nodes.specs.Nodes.{Node, apply, choice, fail, forward, Heap, at}
 use Rattle.nodes.specs.Forwards.{follow}
 use Rattle.machine.specs.Walk.{Found}
 use Rattle.machine.specs.Turn.{Rooms}
-use Rattle.alike.specs.Shorten.{Following}
+use Rattle.forwards.specs.Shorten.{Following}
 use Rattle.alike.specs.Walking.{walk}
 use Rattle.alike.specs.Asked.{Entry, Answer}
 use Rattle.alike.specs.Turning as Later

@@ -26,7 +26,7 @@ use Rattle.meaning.specs.Records as PlainRecords
 use Rattle.meaning.proofs.ReadBack as Plainly-back
 use Rattle.meaning.proofs.Demand3 as Plainly
 use Rattle.meaning.proofs.Demand3.{lawful}
-use Rattle.alike.specs.Shorten.{shortened}
+use Rattle.forwards.specs.Shorten.{shortened}
 use Rattle.alike.specs.Asked.{Entry, Answer, version, answerBytes, recordsBytes}
 use Rattle.alike.specs.RowRecords.{answersIn}
 use Rattle.alike.specs.Turning as Later

@@ -17,7 +17,7 @@ use Rattle.rewriting.specs.Rewriting.{Value}
 use Rattle.rewriting.proofs.Steers.{Lawful}
 use Rattle.rewriting.proofs.Update.{update, update-same, update-other}
 use Rattle.meaning.proofs.Turns.{Good, Kept, turn-kept}
-use Rattle.alike.specs.Shorten.{Following}
+use Rattle.forwards.specs.Shorten.{Following}
 use Rattle.alike.specs.Asked.{Entry}
 use Rattle.alike.specs.Turning as Later
 use Rattle.alike.specs.Turning.{State}

@@ -33,7 +33,7 @@ use Rattle.meaning.proofs.Follows.{follow-leads}
 use Rattle.meaning.specs.Entries.{Fit}
 use Rattle.meaning.proofs.Turns.{Good}
 use Rattle.meaning.proofs.Walks.{Stepwise, Finds, walk-right}
-use Rattle.alike.specs.Shorten.{Following}
+use Rattle.forwards.specs.Shorten.{Following}
 use Rattle.alike.specs.Walking.{walk}
 use Rattle.alike.specs.Asked.{Entry}
 use Rattle.alike.specs.Turning as Later

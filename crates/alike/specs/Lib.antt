@@ -1,4 +1,3 @@
-pub mod Shorten
 pub mod Walking
 pub mod Reuse
 pub mod Reach

@@ -10,7 +10,7 @@ use Rattle.expressions.specs.Expressions.{Expr}
 use Rattle.book.specs.Rules.{Rules, bookOf}
 use Rattle.book.specs.Admission.{readBook, readQuestion}
 use Rattle.machine.specs.Turn as Plain
-use Rattle.alike.specs.Shorten.{shortened}
+use Rattle.forwards.specs.Shorten.{shortened}
 use Rattle.alike.specs.Turning as Later
 use Rattle.alike.specs.Night.{Memory, Outcome, roomsOf, refusedAt, endedAs, readRow, asked}
 use Rattle.alike.specs.Alone.{AsAlone}

@@ -13,7 +13,7 @@ use Rattle.nodes.specs.Nodes.{apply, choice, fail, Heap, at}
 use Rattle.machine.specs.Made.{make, place, rewritten, exprNodes, exprChoices}
 use Rattle.rewriting.proofs.Heaps.{there, apply≢fail, choice≢fail, grown-old, grown-new, grown-at}
 use Rattle.rewriting.proofs.Holds.{Holds, holds-of, holds-append}
-use Rattle.run.proofs.Counted.{make-counts}
+use Rattle.standing.proofs.Counted.{make-counts}
 
 -- Q: the symbols that can come; φ: what each weighs; κ and γ: what a choice and a fail weigh
 module _ (Q : ℕ → Type 0) (φ : ℕ → ℕ) (κ γ : ℕ) where

@@ -5,7 +5,7 @@ ghost use lib.ListN.{length};
 ghost use Rattle.limits.specs.Decisions.{Decisions as Sides, decided};
 ghost use Rattle.reading.specs.Bytes.{twoBytes};
 ghost use Rattle.machine.specs.Answers.{decisionNumbers, twoBytesEach};
-ghost use Rattle.run.specs.Held.{Decided, writtenAt};
+ghost use Rattle.standing.specs.Held.{Decided, writtenAt};
 ghost use Rattle.run.specs.AnswerContracts.{SymbolsAsked, SymbolsTold, RowAsked, RowTold, RecordAsked, RecordTold};
 use super::walk::wide;
 use limits::Decisions;

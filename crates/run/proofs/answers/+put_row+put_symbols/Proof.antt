@@ -6,10 +6,10 @@ use native.Mathlib.Omega.{arith}
 use lib.ListN.{length, drop}
 use Rattle.nodes.specs.Nodes.{at, arguments}
 use Rattle.machine.specs.Answers.{rowFrom, symbolsFrom}
-use Rattle.run.specs.ExpressionIn.{arityBy}
-use Rattle.run.proofs.Behind.{numbers-none, numbers-one, numbers-behind}
-use Rattle.run.proofs.HeldOnce.{one-heap}
-use Rattle.run.proofs.ValueSymbols.{AtApply, AtArgument, row-end, none-at-zero, none-at-others, some-at-apply, few-arguments, argument-here, argument-count}
+use Rattle.standing.specs.ExpressionIn.{arityBy}
+use Rattle.standing.proofs.Behind.{numbers-none, numbers-one, numbers-behind}
+use Rattle.standing.proofs.HeldOnce.{one-heap}
+use Rattle.standing.proofs.ValueSymbols.{AtApply, AtArgument, row-end, none-at-zero, none-at-others, some-at-apply, few-arguments, argument-here, argument-count}
 use borrow.Author.Needs.{needs}
 use borrow.Fn.Kinds.{In}
 use borrow.Fn.PlainCycle.{Measures, is, falls, and}

@@ -9,8 +9,8 @@ use Rattle.limits.specs.Sizes.{mostChoices}
 use Rattle.limits.specs.declared.Side.{Side}
 use Rattle.limits.specs.declared.Side.the-variants.{Open, Left, Right}
 use Rattle.machine.specs.Answers.{decisionNumbers}
-use Rattle.run.proofs.Behind.{numbers-none, numbers-one}
-use Rattle.run.proofs.DecidedNumbers.{Turned, turned-length, turned-room, turned-more, turned-all}
+use Rattle.standing.proofs.Behind.{numbers-none, numbers-one}
+use Rattle.standing.proofs.DecidedNumbers.{Turned, turned-length, turned-room, turned-more, turned-all}
 use borrow.Author.Needs.{needs}
 use Rattle.run.proofs.answers.put_decisions.Statement.{statement}
 use Rattle.run.proofs.answers.put_decisions.Tie as tie

@@ -3,8 +3,8 @@ use Prim.Native.Nat.{suc}
 use native.Mathlib.Omega.{arith}
 use Rattle.limits.specs.Sizes.{mostDepth}
 use Rattle.machine.specs.Answers.{symbolsFrom}
-use Rattle.run.proofs.HeldOnce.{one-heap, one-meaning}
-use Rattle.run.proofs.RecordRows.{record-written}
+use Rattle.standing.proofs.HeldOnce.{one-heap, one-meaning}
+use Rattle.standing.proofs.RecordRows.{record-written}
 use borrow.Author.Needs.{needs}
 use Rattle.run.proofs.answers.put_record.Statement.{statement}
 use Rattle.run.proofs.answers.put_record.Tie as tie

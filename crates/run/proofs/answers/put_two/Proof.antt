@@ -2,7 +2,7 @@
 use native.Mathlib.Omega.{arith}
 use borrow.Author.Needs.{needs}
 use lib.ListN.{length-set}
-use Rattle.run.proofs.Behind.{two-stored}
+use Rattle.standing.proofs.Behind.{two-stored}
 use Rattle.run.proofs.answers.put_two.Statement.{statement}
 use Rattle.run.proofs.answers.put_two.Tie as tie
 

@@ -8,7 +8,7 @@ use lib.ListN.{length, set, take, drop, length-append}
 use lib.Seq.{paste-zero, length-paste, take-paste, drop-paste, take-length, drop-drop, sets-eq}
 use Rattle.reading.specs.Bytes.{twoBytes}
 use Rattle.machine.specs.Answers.{twoBytesEach}
-use Rattle.run.specs.Held.{writtenAt}
+use Rattle.standing.specs.Held.{writtenAt}
 
 -- a row written over a list leaves it as long
 pub written-length : (m : List ℕ) (p : ℕ) (a : List ℕ) → p + length a ≤ length m → length (writtenAt m p a) ≡ length m

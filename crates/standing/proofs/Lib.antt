@@ -1,0 +1,15 @@
+pub mod Unrolled
+pub mod Counted
+pub mod Layers
+pub mod Standing
+pub mod Parts
+pub mod Admitted
+pub mod TreesStand
+pub mod QuestionStands
+pub mod Hops
+pub mod Behind
+pub mod HeldOnce
+pub mod ValueSymbols
+pub mod DecidedNumbers
+pub mod RecordRows
+pub mod FewVariables
