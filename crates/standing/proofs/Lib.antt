@@ -1,5 +1,7 @@
 pub mod ShapeTests
 pub mod ShapeRows
+pub mod ShapesTold
+pub mod IndexHolds
 pub mod Unrolled
 pub mod Counted
 pub mod Layers
