@@ -2,6 +2,7 @@ pub mod ShapeTests
 pub mod ShapeRows
 pub mod ShapesTold
 pub mod IndexHolds
+pub mod SortedReady
 pub mod Unrolled
 pub mod Counted
 pub mod Layers
