@@ -1,1 +1,2 @@
 pub mod Shortcuts
+pub mod MovedDown
