@@ -1,2 +1,3 @@
 pub mod Shortcuts
 pub mod MovedDown
+pub mod PlainTurn
