@@ -1,3 +1,4 @@
 pub mod Shortcuts
 pub mod MovedDown
 pub mod PlainTurn
+pub mod Turns
