@@ -14,7 +14,6 @@ use Rattle.limits.specs.Lent.{Entry as PlainEntry}
 use Rattle.book.specs.Rules.{Book}
 use Rattle.nodes.specs.Nodes.{Node, apply, choice, fail, forward, Heap, at}
 use Rattle.nodes.specs.Forwards.{follow}
-use Rattle.machine.specs.Made.{place}
 use Rattle.machine.specs.Answers as PlainAnswers
 use Rattle.machine.specs.Answers.{Answer as PlainAnswer, symbolsFrom}
 use Rattle.machine.specs.Walk as PlainWalk

@@ -3,12 +3,12 @@
 use mathlib.Core.Bool.{Bool, true, false}
 use mathlib.Core.Path.{_≡_, refl, sym, ap, subst, _∙_}
 use mathlib.Core.Logic.{_↔_, _≢_}
-use mathlib.Core.List.{List, [], _∷_, _++_, map}
+use mathlib.Core.List.{List, [], _∷_, map}
 use Prim.Native.Nat.{ℕ, suc, _+_, _<_, _≤_}
 use native.Mathlib.Decide.{decLt}
 use native.Mathlib.Omega.{arith}
 use borrow.Author.Tests.{ltb-true, ltb-false, ne-eqb}
-use lib.Dec.{ltb, eqb}
+use lib.Dec.{ltb}
 use lib.ListN.{length, getD, length-set}
 use Rattle.limits.specs.Sizes.{mostChoices}
 use Rattle.limits.specs.declared.Side.{Side}
@@ -26,10 +26,10 @@ use Rattle.machine.specs.Turn.{Rooms}
 use Rattle.rewriting.proofs.Heaps.{grown-length}
 use Rattle.rewriting.proofs.Counted.{place-counts}
 use Rattle.rewriting.proofs.Steers.{Steerable}
-use Rattle.rewriting.specs.Heaps.{InRange, NoForward}
-use Rattle.rewriting.specs.Paths.{In, first, later, Finite}
+use Rattle.rewriting.specs.Heaps.{InRange}
+use Rattle.rewriting.specs.Paths.{In, first, Finite}
 use Rattle.alike.specs.Shorten.{Following}
-use Rattle.alike.specs.Reuse.{Marks, arrowsOf, reached, movedTo, keptBy, movedDown}
+use Rattle.alike.specs.Reuse.{Marks, arrowsOf, movedTo, keptBy, movedDown}
 use Rattle.alike.specs.Asked.{Entry, Answer, answerBytes}
 use Rattle.alike.specs.Walking.{Walked, walk}
 use Rattle.alike.specs.Turning as Later
@@ -38,7 +38,7 @@ use Rattle.alike.specs.AsPlain.{Shortcut}
 use Rattle.alike.specs.Lacking.{count, reachable, needed, walkAt, turnWalk, Lacking}
 use Rattle.alike.proofs.Alike.{Pairing, NodeAlike, Arrows, Alike, still′, followed}
 use Rattle.alike.proofs.Shortcuts.{unchanged, _further_, Harmless, alike-shortcut}
-use Rattle.alike.proofs.Walks.{FoundAlike, Goes, walk-alike}
+use Rattle.alike.proofs.Walks.{FoundAlike, walk-alike}
 use Rattle.alike.proofs.Shorts.{Itself, Same, arrows-itself, alike-itself}
 use Rattle.alike.proofs.Reached.{Marked, reached-size, roots-reached, arrows-reached}
 use Rattle.alike.proofs.Dropped.{Moves, arrows-moved, alike-moved}

@@ -1,8 +1,8 @@
 -- A ROW OF QUESTIONS, loaded, is accepted if it fits the rooms; so every state that a run over it leaves is accepted.
 use mathlib.Core.Bool.{Bool}
-use mathlib.Core.Path.{_≡_, refl, sym, ap, _∙_}
+use mathlib.Core.Path.{_≡_, refl}
 use mathlib.Core.List.{List, [], _∷_, _++_, map, map-append}
-use Prim.Native.Nat.{ℕ, zero, suc, _+_, _≤_, _<_}
+use Prim.Native.Nat.{ℕ, suc, _+_, _≤_, _<_}
 use native.Mathlib.Nat.{le-refl}
 use native.Mathlib.Omega.{arith}
 use lib.ListN.{length, length-append, length-map, length-replicate}
@@ -13,7 +13,7 @@ use Rattle.limits.specs.Lent.{Entry as PlainEntry}
 use Rattle.reading.specs.Reading.{got}
 use Rattle.symbols.specs.Symbols.{Symbols}
 use Rattle.expressions.specs.Expressions.{Expr}
-use Rattle.book.specs.Rules.{Rules, bookOf}
+use Rattle.book.specs.Rules.{Rules}
 use Rattle.book.specs.Admission.{readBook}
 use Rattle.nodes.specs.Nodes.{Node, fail, Heap, at}
 use Rattle.machine.specs.Made.{make}
@@ -21,15 +21,15 @@ use Rattle.machine.specs.Turn.{Rooms}
 use Rattle.rewriting.specs.Scoped.{Scoped}
 use Rattle.rewriting.specs.Lists.{All}
 use Rattle.rewriting.proofs.Lists.{all-append, all-map, all-anywhere}
-use Rattle.rewriting.specs.Heaps.{InRange, ChoicesBelow, ArrowsBelow, ChoiceBelow}
+use Rattle.rewriting.specs.Heaps.{ArrowsBelow, ChoiceBelow}
 use Rattle.rewriting.proofs.Kept.{arrowsBelow-mono, choiceBelow-mono, make-range, make-choices}
 use Rattle.sorts.specs.Sorts.{ExprFits, RulesFit}
 use Rattle.sorts.proofs.ReadingFits.{book-fits, question-fits}
 use Rattle.sorts.proofs.Steering.{scoped}
 use Rattle.meaning.proofs.AllTurns.{open-at}
 use Rattle.meaning.proofs.Finite.{finite-fail}
-use Rattle.accepted.specs.Accepted.{AcceptedEntry, AcceptedState}
-use Rattle.accepted.specs.Turnable.{Turnable, TurnableNodes}
+use Rattle.accepted.specs.Accepted.{AcceptedEntry}
+use Rattle.accepted.specs.Turnable.{TurnableNodes}
 use Rattle.accepted.proofs.Asked.{settled-argued}
 use Rattle.accepted.proofs.Laws.{argues-settled}
 use Rattle.accepted.proofs.AllEnd.{made-ends}
@@ -42,7 +42,7 @@ use Rattle.alike.specs.Night.{readRow, asked}
 use Rattle.alike.specs.AsWithRoom.{plainly}
 use Rattle.alike.specs.AsPlain.{plainEntry}
 use Rattle.alike.proofs.Nights.{row-read}
-use Rattle.lasting.specs.Lasting.{LaterAccepted, LaterTurnable, InUse, Lasts, Admitted, Loadable, LoadedLasts, RunLasts}
+use Rattle.lasting.specs.Lasting.{LaterTurnable, InUse, Admitted, Loadable, LoadedLasts, RunLasts}
 use Rattle.lasting.proofs.Turns.{accepted-lasts, inUse-lasts}
 
 -- ---- one question more

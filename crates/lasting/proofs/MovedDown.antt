@@ -1,6 +1,6 @@
 -- Nodes that are not marked dropped and the rest moved down (request L10): nodes stay turnable, if what a marked node's arrows lead to is marked.
 use mathlib.Core.Bool.{true, false}
-use mathlib.Core.Path.{_≡_, refl, sym, ap, subst, _∙_}
+use mathlib.Core.Path.{_≡_, refl, ap, subst}
 use mathlib.Core.List.{List, [], _∷_, map}
 use Prim.Native.Nat.{ℕ, zero, suc, _<_}
 use native.Mathlib.Decide.{decLt}
@@ -16,7 +16,7 @@ use Rattle.rewriting.specs.Paths.{In, first, later, Arrow, argument, leftSide, 
 use Rattle.meaning.proofs.Finite.{finite-fail, arrow-below}
 use Rattle.accepted.specs.Accepted.{Along, Fits}
 use Rattle.accepted.specs.Turnable.{AllEnd, TurnableNodes}
-use Rattle.accepted.proofs.Asked.{Bears, Asks, Settles, Settled, settled-argued}
+use Rattle.accepted.proofs.Asked.{Bears, Asks, Settled, settled-argued}
 use Rattle.accepted.proofs.Laws.{argues-settled}
 use Rattle.alike.specs.Reuse.{arrowsOf, Marks, movedTo, redirected, keptBy, movedDown}
 use Rattle.alike.proofs.Reached.{Marked}

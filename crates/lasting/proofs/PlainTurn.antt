@@ -1,21 +1,19 @@
 -- AN ATTEMPT is the plain machine's turn from the nodes that following leaves: on them the plain walk finds what the walk found that left them.
 use mathlib.Core.Bool.{Bool, true, false}
 use mathlib.Core.Path.{_≡_, refl, sym, ap, subst, _∙_}
-use mathlib.Core.List.{List, _∷_, map}
-use Prim.Native.Nat.{ℕ, suc, _<_}
+use mathlib.Core.List.{List, map}
+use Prim.Native.Nat.{ℕ, _<_}
 use native.Mathlib.Omega.{arith}
 use borrow.Author.Tests.{lt-ltb, le-ltb}
 use lib.Dec.{ltb}
 use lib.ListN.{length, getD}
 use Rattle.limits.specs.declared.Side.the-variants.{Open}
-use Rattle.limits.specs.Lent.{Entry as PlainEntry}
 use Rattle.book.specs.Rules.{Book}
 use Rattle.nodes.specs.Nodes.{Node, apply, choice, fail, forward, Heap, at}
 use Rattle.nodes.specs.Forwards.{follow}
 use Rattle.machine.specs.Answers as PlainAnswers
 use Rattle.machine.specs.Answers.{Answer as PlainAnswer}
 use Rattle.machine.specs.Walk as PlainWalk
-use Rattle.machine.specs.Walk.{Found}
 use Rattle.machine.specs.Turn as Plain
 use Rattle.machine.specs.Turn.{Rooms}
 use Rattle.rewriting.proofs.Steers.{Steerable}
@@ -74,6 +72,7 @@ module _ (leaves : Following) (harmless : Harmless leaves) (B : Book) (row : Boo
 
   self : Itself h n n
   self = (refl, leads-inside range unchanged (follow-leads h (e .root)) inside, still, leads-finite (follow-leads h (e .root)) ends)
+
   -- the plain machine's turn from such nodes is about the same node
   turn-there : (b : ℕ) (g : Heap) → Shortcut h g
       → Plain.turn B (withBytes room b) (forgotten (withNodes s g)) (plainEntry e) (map plainEntry rest)

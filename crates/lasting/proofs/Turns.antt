@@ -2,13 +2,12 @@
 use mathlib.Core.Bool.{Bool, true, false}
 use mathlib.Core.Path.{_≡_, refl, sym, ap, subst, _∙_}
 use mathlib.Core.List.{List, [], _∷_, map}
-use Prim.Native.Nat.{ℕ, zero, suc, _≤_, _<_}
+use Prim.Native.Nat.{ℕ, zero, suc, _<_}
 use native.Mathlib.Omega.{arith}
 use lib.Dec.{eqb}
 use lib.ListN.{length, length-map}
 use Rattle.limits.specs.Lent.{Entry as PlainEntry}
-use Rattle.symbols.specs.Symbols.{Symbols}
-use Rattle.book.specs.Rules.{Rules, Book, bookOf}
+use Rattle.book.specs.Rules.{Rules, bookOf}
 use Rattle.nodes.specs.Nodes.{Heap, at}
 use Rattle.machine.specs.Turn as Plain
 use Rattle.machine.specs.Turn.{Rooms}
@@ -26,10 +25,12 @@ use Rattle.alike.specs.Asked.{Entry}
 use Rattle.alike.specs.Turning as Later
 use Rattle.alike.specs.Turning.{State, Turned, Ended, withNodes, moved, dropped}
 use Rattle.alike.specs.AsPlain.{Shortcut, plainEntry, forgotten}
+use Rattle.alike.specs.Lacking.{Lacking}
 use Rattle.alike.proofs.Shortcuts.{Harmless, shortened-harmless}
 use Rattle.alike.proofs.Reached.{Marked, reached-size, roots-reached, arrows-reached}
-use Rattle.alike.proofs.Dropping.{marks, dropped-fewer, dropped-waiting, dropped-front}
+use Rattle.alike.proofs.Dropping.{marks, dropped-fewer, dropped-front}
 use Rattle.alike.proofs.Instance.{Forgets, withBytes}
+use Rattle.alike.proofs.Lacking.{lacking}
 use Rattle.lasting.specs.Lasting.{LaterAccepted, LaterTurnable, InUse, StateLeft, Keeps, Lasts}
 use Rattle.lasting.proofs.Shortcuts.{shortcut-turnable}
 use Rattle.lasting.proofs.MovedDown.{inside-moved, moved-turnable}
@@ -267,3 +268,12 @@ module _ (r : Rules) (row : Bool) (room : Rooms) where
   accepted-lasts rules before =
       lasts-by (LaterAccepted (r .symbols) room before) (λ s p. accepted-turnable rules p)
       (λ s t p kept. turnable-accepted (kept .turnable) (kept .counts before (accepted-counted p)))
+
+-- 21 is given exactly when the reachable nodes plus those needed pass the room, from every accepted state
+pub lacking-accepted : (r : Rules) → RulesFit r → (row : Bool) (room : Rooms) (before : ℕ) (s : State) (e : Entry) (rest : List Entry) → s .waiting ≡ e ∷ rest
+    → LaterAccepted (r .symbols) room before s → Lacking shortened (bookOf r) row room s e rest
+lacking-accepted r rules row room before s e rest front accepted =
+    let turnable = accepted-turnable rules accepted in
+    let here = entry-here shortened shortened-harmless r row room s e rest front turnable in
+    lacking shortened shortened-harmless (bookOf r) row room s e rest front (turnable .heap .range) (argues-lawful r .steers (turnable .heap .argues))
+    (here .inside) (turnable .heap .ends (e .root)) (accepted .nodes)

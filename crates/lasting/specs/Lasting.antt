@@ -1,6 +1,6 @@
 -- EVERY STATE THAT A RUN LEAVES is one from which a second call goes on, also where entries carry questions' numbers (L3), forwards are shortened (L7) and
 -- nodes used again (L10). Request L12: "proved: every state that any run or call leaves is accepted by the same book and rooms". Kept by proofs/Turns.antt
--- and proofs/Rows.antt.
+-- and proofs/LoadedRows.antt.
 use mathlib.Core.Bool.{Bool}
 use mathlib.Core.Path.{_≡_}
 use mathlib.Core.List.{List, _∷_}
