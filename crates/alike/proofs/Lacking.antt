@@ -104,7 +104,8 @@ module _ (leaves : Following) (B : Book) (row : Bool) (room : Rooms) (s : State)
   done-judges fits n (Found.rewrites m x vs) =
       let env = map (λ (v : Slot). arrowAt (s .heap) v) vs in
       let p = place x env (length (s .heap)) (s .choices) in
-      stepped-judges _ _ _ (grown-length (s .heap) m (p .top) (p .nodes) ∙ ap (λ k. length (s .heap) + k) (place-counts x env (length (s .heap)) (s .choices) .0))
+      let fresh = place-counts x env (length (s .heap)) (s .choices) .0 in
+      stepped-judges _ _ _ (grown-length (s .heap) m (p .top) (p .nodes) ∙ ap (λ k. length (s .heap) + k) fresh)
   done-judges fits n (Found.pulls m j i l r) = stepped-judges _ _ _ (pulled-length (s .heap) m j i l r)
   done-judges fits n Found.far = needs-none room s (omega arith) (λ z. omega arith)
 
@@ -133,8 +134,9 @@ attempt-judges leaves B row room s e rest = go (at g n)
         (split-not leaves B row room (withNodes s g) e rest (e .question) i l r (e .decisions) (getD (e .decisions) i Open))
     go (apply f xs) size fits =
         let w = walk leaves B n g in
-        subst (λ (k : ℕ). Judges room (withNodes s (w .nodes)) (k + needed (w .found)) (Later.done leaves B row room (withNodes s (w .nodes)) rest e n (w .found)))
-        size (done-judges leaves B row room (withNodes s (w .nodes)) e rest (rw size fits) n (w .found))
+        let t = withNodes s (w .nodes) in
+        subst (λ (k : ℕ). Judges room t (k + needed (w .found)) (Later.done leaves B row room t rest e n (w .found))) size
+        (done-judges leaves B row room t e rest (rw size fits) n (w .found))
 
 -- ---- two walks
 

@@ -87,7 +87,8 @@ module _ {r : Rules} (x : Expr) (s : ℕ) (fits : ExprFits (r .symbols) [] x s) 
   -- THE NODES stay turnable
   made-turnable : TurnableNodes r k′ (h ++ ys)
   made-turnable = record {
-    range = each-made (ArrowsBelow (length (h ++ ys))) tt (each-of h (λ m. arrowsBelow-mono (at h m) (omega (arith, length-append h ys)) (w .range m))) (ranged .1);
+    range = each-made (ArrowsBelow (length (h ++ ys))) tt
+        (each-of h (λ m. arrowsBelow-mono (at h m) (omega (arith, length-append h ys)) (w .range m))) (ranged .1);
     numbered = each-made (ChoiceBelow k′) tt (each-of h (λ m. choiceBelow-mono (at h m) (more-choices .0) (w .numbered m))) (more-choices .1);
     argues = record {
       rules = w .argues .rules;

@@ -96,7 +96,8 @@ module _ (leaves : Following) (harmless : Harmless leaves) (r : Rules) (row : Bo
     pub attempt-kept : KeptAttempt r room s (Later.attempt leaves (bookOf r) row room s e rest)
     unfolding withNodes
     attempt-kept =
-        go (from-there .forgets) (turn-turnable r (withBytes room b) (forgotten u) (plainEntry e) (map plainEntry rest) (ap (map plainEntry) front) (left .turnable))
+        go (from-there .forgets)
+        (turn-turnable r (withBytes room b) (forgotten u) (plainEntry e) (map plainEntry rest) (ap (map plainEntry) front) (left .turnable))
       where
         b : ℕ
         b = from-there .bytes
@@ -209,7 +210,9 @@ module _ (leaves : Following) (harmless : Harmless leaves) (r : Rules) (row : Bo
             | true ↦ Later.attempted leaves (bookOf r) row room (dropped t)
             | false ↦ Turned.refused c t
           ])
-          by true = left-map (Later.attempted leaves (bookOf r) row room (dropped t)) (λ u. kept-on {u = u} kept) (second-kept t e rest (same ∙ front) (kept .turnable))
+          by true =
+              left-map (Later.attempted leaves (bookOf r) row room (dropped t)) (λ u. kept-on {u = u} kept)
+              (second-kept t e rest (same ∙ front) (kept .turnable))
           by false = kept
 
 -- the state that a run left
@@ -253,7 +256,8 @@ module _ (r : Rules) (row : Bool) (room : Rooms) where
     where
       turn : Keeps P (Later.turn shortened (bookOf r) row room)
       turn s e rest front p =
-          left-map (Later.turn shortened (bookOf r) row room s e rest) (λ t. on s t p) (turn-kept shortened shortened-harmless r row room s e rest front (good s p))
+          left-map (Later.turn shortened (bookOf r) row room s e rest) (λ t. on s t p)
+          (turn-kept shortened shortened-harmless r row room s e rest front (good s p))
 
   -- TURNABLE states stay so
   pub turnable-lasts : Lasts r row room (LaterTurnable r)
