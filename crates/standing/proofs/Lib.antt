@@ -1,3 +1,5 @@
+pub mod ShapeTests
+pub mod ShapeRows
 pub mod Unrolled
 pub mod Counted
 pub mod Layers
