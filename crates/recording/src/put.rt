@@ -1,12 +1,10 @@
 // What a record is made of, two bytes each, from a place on. A place where there is no room is left out.
 ghost use mathlib.Core.Path.{_≡_};
-ghost use Prim.Native.Nat.{_+_, _*_, _<_, _≤_};
+ghost use Prim.Native.Nat.{_+_, _<_, _≤_};
 ghost use lib.ListN.{length};
-ghost use Rattle.limits.specs.Decisions.{Decisions as Sides, decided};
 ghost use Rattle.reading.specs.Bytes.{twoBytes};
-ghost use Rattle.machine.specs.Answers.{decisionNumbers, twoBytesEach};
-ghost use Rattle.standing.specs.Held.{Decided, writtenAt};
-ghost use Rattle.recording.specs.RecordContracts.{SymbolsTold, RowTold, DecisionsTold};
+ghost use Rattle.standing.specs.Held.{writtenAt};
+ghost use Rattle.recording.specs.RecordContracts.{SymbolsTold, RowTold, WordTold, DecisionsTold};
 use limits::Decisions;
 use limits::Limits;
 use nodes::Kind;
@@ -18,7 +16,7 @@ use standing::arity_in;
 
 // A number in two bytes at p: the place behind it.
 pub(crate) fn put_two(bytes: &mut [u8], p: usize, n: u16) -> usize
-    ensures { λ r. ⌜ (p + 2 ≤ length (now (bytes .entry)) → (r ≡ p + 2) × (now (bytes .exit) ≡ writtenAt (now (bytes .entry)) p (twoBytes n))) × (p ≤ length (now (bytes .entry)) → r ≤ length (now (bytes .entry))) ⌝ }
+    ensures { λ r. ⌜ p + 2 ≤ length (now (bytes .entry)) → (r ≡ p + 2) × (now (bytes .exit) ≡ writtenAt (now (bytes .entry)) p (twoBytes n)) ⌝ }
 {
     let room = bytes.len();
     if room <= p {
@@ -81,6 +79,8 @@ fn put_row(
 
 // The numbers of the bits of a word that are set, of which the lowest is bit `first` of the set, two bytes each, from p on: the place behind.
 fn put_word(bytes: &mut [u8], word: u64, first: u16, from: usize) -> usize
+    requires { ⌜ first < 512 ⌝ }
+    ensures { λ r. ⌜ WordTold (now (bytes .entry)) word first from r (now (bytes .exit)) ⌝ }
 {
     let mut p = from;
     let mut w = word;

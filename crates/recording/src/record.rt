@@ -27,7 +27,8 @@ pub fn record_answer(
     if Limits::ARRIVALS < symbols {
         return 0;
     }
-    let numbers = 1 + symbols + (ds.decided() as usize) + if row { 1 } else { 0 };
+    let own: usize = if row { 2 } else { 1 };
+    let numbers = own + symbols + (ds.decided() as usize);
     let size = 2 + 2 * numbers;
     let room = bytes.len();
     if room < written {
