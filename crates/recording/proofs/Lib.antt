@@ -1,1 +1,2 @@
-
+pub mod RowBegun
+pub mod BitNumbers

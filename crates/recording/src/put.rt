@@ -16,7 +16,7 @@ use standing::arity_in;
 
 // A number in two bytes at p: the place behind it.
 pub(crate) fn put_two(bytes: &mut [u8], p: usize, n: u16) -> usize
-    ensures { λ r. ⌜ p + 2 ≤ length (now (bytes .entry)) → (r ≡ p + 2) × (now (bytes .exit) ≡ writtenAt (now (bytes .entry)) p (twoBytes n)) ⌝ }
+    ensures { λ r. ⌜ (p + 2 ≤ length (now (bytes .entry)) → (r ≡ p + 2) × (now (bytes .exit) ≡ writtenAt (now (bytes .entry)) p (twoBytes n))) ⌝ }
 {
     let room = bytes.len();
     if room <= p {
