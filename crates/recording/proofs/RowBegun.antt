@@ -8,12 +8,19 @@ use lib.ListN.{length, set, length-append}
 use lib.Seq.{sets-eq}
 use Rattle.reading.specs.Bytes.{twoBytes}
 use Rattle.standing.specs.Held.{writtenAt}
-use Rattle.standing.proofs.Behind.{Numbers, numbers-none, numbers-length, numbers-behind}
+use Rattle.standing.proofs.Behind.{Numbers, numbers-none, numbers-one, numbers-length, numbers-behind}
 
 -- the two stores of a number
 pub number-stored : (m : List ℕ) (p n : ℕ) → p + 2 ≤ length m → set (set m p (n / 256)) (p + 1) (n % 256) ≡ writtenAt m p (twoBytes n)
 unfolding twoBytes
 number-stored m p n fits = rw add-one (sets-eq (n / 256 ∷ n % 256 ∷ []) m p fits)
+
+-- what `put_two` tells
+abbrev NumberTold : List ℕ → ℕ → ℕ → ℕ → List ℕ → Type 0
+NumberTold is p n q js = p + 2 ≤ length is → (q ≡ p + 2) × (js ≡ writtenAt is p (twoBytes n))
+
+pub number-told : (is : List ℕ) (p n : ℕ) (js : List ℕ) (q : ℕ) → NumberTold is p n q js → p + 2 ≤ length is → Numbers is p (n ∷ []) js q
+number-told is p n js q told fits = (told fits .0, numbers-one is p n js (told fits .1) .1)
 
 -- from `from` on there is room for `all`; its numbers but for those that are left stand there over what m has, and p is the place behind them
 pub record Begun (m : List ℕ) (from : ℕ) (all is : List ℕ) (p : ℕ) (left : List ℕ) : Type 0 where
@@ -48,6 +55,10 @@ module _ {m : List ℕ} {from : ℕ} {all is : List ℕ} {p : ℕ} {left : List 
             numbers-behind m from (begun .done) is p new js q (begun .there) new-there
             (omega (arith, left-inside, new-there .0, simp length-append at (ap length e)));
       }
+
+  -- the next of them, if `put_two` has written it
+  pub begun-one : (n : ℕ) (rest js : List ℕ) (q : ℕ) → left ≡ n ∷ rest → NumberTold is p n q js → Begun m from all js q rest
+  begun-one n rest js q e told = begun-more (n ∷ []) rest js q e (number-told is p n js q told (omega (arith, begun-room, ap length e)))
 
   -- after the last
   pub begun-all : left ≡ [] → Numbers m from all is p
