@@ -1,17 +1,18 @@
 -- The numbers of the bits that are set: of a word, and of the words of a decision set, whose decided choices they say.
 use mathlib.Core.List.{List, [], _∷_, _++_}
 use mathlib.Core.Path.{_≡_, refl, sym, ap, _∙_}
-use Prim.Native.Nat.{ℕ, zero, suc, _+_, _-_, _*_, _/_, _%_, _<_}
+use Prim.Native.Nat.{ℕ, zero, suc, _+_, _-_, _*_, _/_, _%_, _<_, _≤_}
 use native.Mathlib.Nat.{not-suc-le-zero}
 use native.Mathlib.Numerals.{add-one, sub-one}
 use native.Mathlib.Omega.{arith}
-use lib.ListN.{length, getD, take, drop, length-take, length-drop, take-append-drop}
+use lib.ListN.{length, getD, take, drop, length-take, length-drop, take-append-drop, drop-of-length-le}
 use lib.Seq.{drop-drop}
 use borrow.Author.Tests.{eq-eqb, ne-eqb}
-use Rattle.limits.specs.Sizes.{mostChoices, wordsOfSet}
+use Rattle.limits.specs.Sizes.{wordsOfSet}
 use Rattle.limits.specs.Decisions.{Decisions, bitsOf, wordOf, wordsIn, wordsOf}
 use Rattle.limits.specs.declared.Side.the-variants.{Open, Left, Right}
 use Rattle.machine.specs.Answers.{decisionNumbers}
+use Rattle.standing.specs.Held.{Decided}
 use Rattle.recording.specs.RecordContracts.{bitsFrom}
 
 -- no bit of 0 is set
@@ -73,15 +74,20 @@ word-of-set (suc n) (suc q) ds b =
     let further : 32 + 32 * q ≡ 32 * suc q = omega arith in
     word-of-set n q (drop 32 ds) (omega arith) ∙ ap (λ (l : Decisions). wordOf (take 32 l)) (drop-drop (32 * q) 32 ds ∙ ap (λ (k : ℕ). drop k ds) further)
 
--- the numbers of the choices from 32q on are those of the bits of word q, and then those of the choices behind them
-pub word-next : (ds : Decisions) (q : ℕ) → length ds ≡ mostChoices → q < wordsOfSet
-    → decisionNumbers (32 * q) (drop (32 * q) ds) ≡ bitsFrom (64 * q) (getD (wordsOf ds) q 0) 64 ++ decisionNumbers (32 * (q + 1)) (drop (32 * (q + 1)) ds)
-unfolding wordsOf
-word-next ds q l b =
-    let here : Decisions = take 32 (drop (32 * q) ds) in
-    let many : length here ≡ 32 = simp (length-take, length-drop) (omega arith) in
-    let further : 32 * q + 32 ≡ 32 * (q + 1) = omega arith in
-    let split : drop (32 * q) ds ≡ here ++ drop (32 * (q + 1)) ds =
-    sym (take-append-drop 32 (drop (32 * q) ds)) ∙ ap (λ (l : Decisions). here ++ l) (drop-drop 32 (32 * q) ds ∙ ap (λ (k : ℕ). drop k ds) further) in
-    rw (split, word-of-set wordsOfSet q ds b)
-    (sym (word-numbers (32 * q) (64 * q) 64 (32 * (q + 1)) here (drop (32 * (q + 1)) ds) (omega arith) (omega arith) (omega arith)))
+module _ {words : List ℕ} {ds : Decisions} (means : Decided words ds) (q : ℕ) where
+  -- the numbers of the choices from 32q on are those of the bits of word q, and then those of the choices behind them
+  pub word-next : q < wordsOfSet → decisionNumbers (32 * q) (drop (32 * q) ds) ≡ bitsFrom (64 * q) (getD words q 0) 64 ++ decisionNumbers (32 * (q + 1)) (drop (32 * (q + 1)) ds)
+  unfolding wordsOf
+  word-next b =
+      let here : Decisions = take 32 (drop (32 * q) ds) in
+      let many : length here ≡ 32 = simp (length-take, length-drop) (omega (arith, means .all)) in
+      let further : 32 * q + 32 ≡ 32 * (q + 1) = omega arith in
+      let split : drop (32 * q) ds ≡ here ++ drop (32 * (q + 1)) ds =
+      sym (take-append-drop 32 (drop (32 * q) ds)) ∙ ap (λ (l : Decisions). here ++ l) (drop-drop 32 (32 * q) ds ∙ ap (λ (k : ℕ). drop k ds) further) in
+      rw (split, means .words, word-of-set wordsOfSet q ds b)
+      (sym (word-numbers (32 * q) (64 * q) 64 (32 * (q + 1)) here (drop (32 * (q + 1)) ds) (omega arith) (omega arith) (omega arith)))
+
+  -- behind the last word there are none
+  pub words-end : wordsOfSet ≤ q → decisionNumbers (32 * q) (drop (32 * q) ds) ≡ []
+  unfolding decisionNumbers
+  words-end b = rw (drop-of-length-le ds {i = 32 * q} (omega (arith, means .all)))

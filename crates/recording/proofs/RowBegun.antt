@@ -15,13 +15,6 @@ pub number-stored : (m : List ℕ) (p n : ℕ) → p + 2 ≤ length m → set (s
 unfolding twoBytes
 number-stored m p n fits = rw add-one (sets-eq (n / 256 ∷ n % 256 ∷ []) m p fits)
 
--- what `put_two` tells
-abbrev NumberTold : List ℕ → ℕ → ℕ → ℕ → List ℕ → Type 0
-NumberTold is p n q js = p + 2 ≤ length is → (q ≡ p + 2) × (js ≡ writtenAt is p (twoBytes n))
-
-pub number-told : (is : List ℕ) (p n : ℕ) (js : List ℕ) (q : ℕ) → NumberTold is p n q js → p + 2 ≤ length is → Numbers is p (n ∷ []) js q
-number-told is p n js q told fits = (told fits .0, numbers-one is p n js (told fits .1) .1)
-
 -- from `from` on there is room for `all`; its numbers but for those that are left stand there over what m has, and p is the place behind them
 pub record Begun (m : List ℕ) (from : ℕ) (all is : List ℕ) (p : ℕ) (left : List ℕ) : Type 0 where
   pub done : List ℕ
@@ -44,21 +37,23 @@ module _ {m : List ℕ} {from : ℕ} {all is : List ℕ} {p : ℕ} {left : List 
   pub begun-room : p + 2 * length left ≤ length is
   begun-room = omega (arith, left-inside, begun-length)
 
-  -- the next of them
-  pub begun-more : (new rest js : List ℕ) (q : ℕ) → left ≡ new ++ rest → Numbers is p new js q → Begun m from all js q rest
-  begun-more new rest js q e new-there =
+  -- the next of them, written where they have room
+  pub begun-more : (new rest js : List ℕ) (q : ℕ) → left ≡ new ++ rest → (p + 2 * length new ≤ length is → Numbers is p new js q) → Begun m from all js q rest
+  begun-more new rest js q e told =
+      let many = simp length-append at (ap length e) in
+      let next = told (omega (arith, begun-room, many)) in
       record {
         done = begun .done ++ new;
         parts = begun .parts ∙ ap (λ (l : List ℕ). begun .done ++ l) e ∙ sym (append-assoc (begun .done) new rest);
         fits = begun .fits;
-        there =
-            numbers-behind m from (begun .done) is p new js q (begun .there) new-there
-            (omega (arith, left-inside, new-there .0, simp length-append at (ap length e)));
+        there = numbers-behind m from (begun .done) is p new js q (begun .there) next (omega (arith, left-inside, next .0, many));
       }
 
-  -- the next of them, if `put_two` has written it
-  pub begun-one : (n : ℕ) (rest js : List ℕ) (q : ℕ) → left ≡ n ∷ rest → NumberTold is p n q js → Begun m from all js q rest
-  begun-one n rest js q e told = begun-more (n ∷ []) rest js q e (number-told is p n js q told (omega (arith, begun-room, ap length e)))
+  -- one number
+  pub begun-one : (n : ℕ) (rest js : List ℕ) (q : ℕ) → left ≡ n ∷ rest → (p + 2 ≤ length is → (q ≡ p + 2) × (js ≡ writtenAt is p (twoBytes n)))
+      → Begun m from all js q rest
+  begun-one n rest js q e told =
+      begun-more (n ∷ []) rest js q e (λ fits. let next = told (omega arith) in (next .0, numbers-one is p n js (next .1) .1))
 
   -- after the last
   pub begun-all : left ≡ [] → Numbers m from all is p

@@ -60,7 +60,7 @@ loop-again c =
       ⊎-elim (λ w. rw (w .5) (omega (arith, w .2 .kept .0))) (λ w. rw (w .1) (inv .2)) (c .if2 .came),
       λ fits. ⊎-elim
           (λ w. rw (w .5, w .6) (begun-one (inv .3 fits) (loop .i) _ _ _ (next-set (loop .i) (loop .w) (loop .left) some-left (w .0 .taken)) (w .2 .ensures)))
-          (λ w. rw (w .1, w .2) (begun-more (inv .3 fits) [] _ _ _ (next-unset (loop .i) (loop .w) (loop .left) some-left (w .0 .left)) (numbers-none (loop .bytes) (loop .p))))
+          (λ w. rw (w .1, w .2) (begun-more (inv .3 fits) [] _ _ _ (next-unset (loop .i) (loop .w) (loop .left) some-left (w .0 .left)) (λ _. numbers-none (loop .bytes) (loop .p))))
           (c .if2 .came),
     )
 
