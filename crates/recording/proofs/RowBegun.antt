@@ -60,3 +60,8 @@ module _ {m : List ℕ} {from : ℕ} {all is : List ℕ} {p : ℕ} {left : List 
   begun-all e =
       let same : all ≡ begun .done = begun .parts ∙ ap (λ (l : List ℕ). begun .done ++ l) e ∙ append-nil (begun .done) in
       rw same (begun .there)
+
+-- all that are left at once
+pub begun-last : {m : List ℕ} {from : ℕ} {all is : List ℕ} {p : ℕ} {left : List ℕ} → Begun m from all is p left → (js : List ℕ) (q : ℕ)
+    → (p + 2 * length left ≤ length is → Numbers is p left js q) → Numbers m from all js q
+begun-last {left = left} begun js q told = begun-all (begun-more begun left [] js q (sym (append-nil left)) told) refl
