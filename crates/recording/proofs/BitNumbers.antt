@@ -9,7 +9,7 @@ use lib.ListN.{length, getD, take, drop, length-take, length-drop, take-append-d
 use lib.Seq.{drop-drop}
 use borrow.Author.Tests.{eq-eqb, ne-eqb}
 use Rattle.limits.specs.Sizes.{wordsOfSet}
-use Rattle.limits.specs.Decisions.{Decisions, bitsOf, wordOf, wordsIn, wordsOf}
+use Rattle.limits.specs.Decisions.{Decisions, wordOf, wordsIn, wordsOf}
 use Rattle.limits.specs.declared.Side.the-variants.{Open, Left, Right}
 use Rattle.machine.specs.Answers.{decisionNumbers}
 use Rattle.standing.specs.Held.{Decided}
@@ -32,38 +32,45 @@ module _ (i w k : ℕ) where
   bit-unset e = rw (ne-eqb (w % 2) 1 e, bitsFrom)
 
 -- the same in the code's words
-pub next-set : (i w left : ℕ) → (left ≡ 0 → ⊥) → w % 2 ≡ 1 → bitsFrom i w left ≡ (i ∷ []) ++ bitsFrom (i + 1) (w / 2) (left - 1)
+pub next-set : (i w left : ℕ) → (left ≡ 0 → ⊥) → w % 2 ≡ 1 → bitsFrom i w left ≡ i ∷ bitsFrom (i + 1) (w / 2) (left - 1)
 next-set i w zero some-left e = absurd (some-left refl)
 next-set i w (suc k) some-left e = rw (add-one, sub-one) (bit-set i w k e)
 
-pub next-unset : (i w left : ℕ) → (left ≡ 0 → ⊥) → (w % 2 ≡ 1 → ⊥) → bitsFrom i w left ≡ [] ++ bitsFrom (i + 1) (w / 2) (left - 1)
+pub next-unset : (i w left : ℕ) → (left ≡ 0 → ⊥) → (w % 2 ≡ 1 → ⊥) → bitsFrom i w left ≡ bitsFrom (i + 1) (w / 2) (left - 1)
 next-unset i w zero some-left e = absurd (some-left refl)
 next-unset i w (suc k) some-left e = rw (add-one, sub-one) (bit-unset i w k e)
+
+-- the two lowest bits, by the side that they say, and the others
+module _ (first w k : ℕ) where
+  bits-open : bitsFrom first (w * 4 + 0) (suc (suc k)) ≡ bitsFrom (suc (suc first)) w k
+  bits-open =
+      let others : (w * 4 + 0) / 2 / 2 ≡ w = omega arith in
+      bit-unset first (w * 4 + 0) (suc k) (λ h. omega arith) ∙ bit-unset (suc first) ((w * 4 + 0) / 2) k (λ h. omega arith) ∙ rw others
+
+  bits-left : bitsFrom first (w * 4 + 1) (suc (suc k)) ≡ first ∷ bitsFrom (suc (suc first)) w k
+  bits-left =
+      let others : (w * 4 + 1) / 2 / 2 ≡ w = omega arith in
+      rw (bit-set first (w * 4 + 1) (suc k) (omega arith), bit-unset (suc first) ((w * 4 + 1) / 2) k (λ h. omega arith), others)
+
+  bits-right : bitsFrom first (w * 4 + 2) (suc (suc k)) ≡ suc first ∷ bitsFrom (suc (suc first)) w k
+  bits-right =
+      let others : (w * 4 + 2) / 2 / 2 ≡ w = omega arith in
+      rw (bit-unset first (w * 4 + 2) (suc k) (λ h. omega arith), bit-set (suc first) ((w * 4 + 2) / 2) k (omega arith), others)
 
 -- the bits of a word, two to a choice, and the choices behind them
 word-numbers : (i first n k : ℕ) (ds es : Decisions) → first ≡ 2 * i → n ≡ 2 * length ds → k ≡ i + length ds
     → bitsFrom first (wordOf ds) n ++ decisionNumbers k es ≡ decisionNumbers i (ds ++ es)
 unfolding bitsFrom wordOf decisionNumbers
 word-numbers i first n k [] es e f g = let same : k ≡ i = omega arith in rw (f, same)
-word-numbers i first n k (Open ∷ ds) es e f g =
-    let w : ℕ = wordOf ds in
+word-numbers i first n k (s ∷ ds) es e f g =
     let two : n ≡ suc (suc (2 * length ds)) = omega arith in
-    let quarter : (w * 4 + 0) / 2 / 2 ≡ w = omega arith in
-    rw (two, bit-unset first (w * 4 + 0) (suc (2 * length ds)) (λ h. omega arith), bit-unset (suc first) ((w * 4 + 0) / 2) (2 * length ds) (λ h. omega arith), quarter)
-    (word-numbers (suc i) (suc (suc first)) (2 * length ds) k ds es (omega arith) refl (omega arith))
-word-numbers i first n k (Left ∷ ds) es e f g =
-    let w : ℕ = wordOf ds in
-    let two : n ≡ suc (suc (2 * length ds)) = omega arith in
-    let quarter : (w * 4 + 1) / 2 / 2 ≡ w = omega arith in
-    rw (two, bit-set first (w * 4 + 1) (suc (2 * length ds)) (omega arith), bit-unset (suc first) ((w * 4 + 1) / 2) (2 * length ds) (λ h. omega arith), quarter,
-    word-numbers (suc i) (suc (suc first)) (2 * length ds) k ds es (omega arith) refl (omega arith), e)
-word-numbers i first n k (Right ∷ ds) es e f g =
-    let w : ℕ = wordOf ds in
-    let two : n ≡ suc (suc (2 * length ds)) = omega arith in
-    let quarter : (w * 4 + 2) / 2 / 2 ≡ w = omega arith in
-    let odd : suc first ≡ 2 * i + 1 = omega arith in
-    rw (two, bit-unset first (w * 4 + 2) (suc (2 * length ds)) (λ h. omega arith), bit-set (suc first) ((w * 4 + 2) / 2) (2 * length ds) (omega arith), quarter,
-    word-numbers (suc i) (suc (suc first)) (2 * length ds) k ds es (omega arith) refl (omega arith), odd)
+    let others = word-numbers (suc i) (suc (suc first)) (2 * length ds) k ds es (omega arith) refl (omega arith) in
+    let right : suc first ≡ 2 * i + 1 = omega arith in
+    rw two elim s [
+      | Open ↦ rw (bits-open first (wordOf ds) (2 * length ds)) others
+      | Left ↦ rw (bits-left first (wordOf ds) (2 * length ds), others, e)
+      | Right ↦ rw (bits-right first (wordOf ds) (2 * length ds), others, right)
+    ]
 
 -- word q of the set is that of the 32 choices from 32q on
 word-of-set : (n q : ℕ) (ds : Decisions) → q < n → getD (wordsIn n ds) q 0 ≡ wordOf (take 32 (drop (32 * q) ds))
@@ -76,7 +83,8 @@ word-of-set (suc n) (suc q) ds b =
 
 module _ {words : List ℕ} {ds : Decisions} (means : Decided words ds) (q : ℕ) where
   -- the numbers of the choices from 32q on are those of the bits of word q, and then those of the choices behind them
-  pub word-next : q < wordsOfSet → decisionNumbers (32 * q) (drop (32 * q) ds) ≡ bitsFrom (64 * q) (getD words q 0) 64 ++ decisionNumbers (32 * (q + 1)) (drop (32 * (q + 1)) ds)
+  pub word-next : q < wordsOfSet
+      → decisionNumbers (32 * q) (drop (32 * q) ds) ≡ bitsFrom (64 * q) (getD words q 0) 64 ++ decisionNumbers (32 * (q + 1)) (drop (32 * (q + 1)) ds)
   unfolding wordsOf
   word-next b =
       let here : Decisions = take 32 (drop (32 * q) ds) in

@@ -49,6 +49,11 @@ module _ {m : List ℕ} {from : ℕ} {all is : List ℕ} {p : ℕ} {left : List 
         there = numbers-behind m from (begun .done) is p new js q (begun .there) next (omega (arith, left-inside, next .0, many));
       }
 
+  -- none, where there are none
+  pub begun-same : (rest : List ℕ) → left ≡ rest → Begun m from all is p rest
+  begun-same rest e =
+      record { done = begun .done; parts = begun .parts ∙ ap (λ (l : List ℕ). begun .done ++ l) e; fits = begun .fits; there = begun .there }
+
   -- one number
   pub begun-one : (n : ℕ) (rest js : List ℕ) (q : ℕ) → left ≡ n ∷ rest → (p + 2 ≤ length is → (q ≡ p + 2) × (js ≡ writtenAt is p (twoBytes n)))
       → Begun m from all js q rest

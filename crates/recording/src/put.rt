@@ -51,7 +51,17 @@ pub(crate) fn put_symbols(
     }
     let f = label_at(nodes, n);
     let q = put_two(bytes, p, f);
-    put_row(shapes, nodes, used, bytes, depth - 1, n, 0, arity_in(shapes, f), q)
+    put_row(
+        shapes,
+        nodes,
+        used,
+        bytes,
+        depth - 1,
+        n,
+        0,
+        arity_in(shapes, f),
+        q,
+    )
 }
 
 // The same of the arguments of node n, from the j-th on.

@@ -1,6 +1,4 @@
 // A whole record.
-ghost use mathlib.Core.Bool.{true, false};
-ghost use mathlib.Core.Path.{_≡_};
 ghost use Rattle.recording.specs.RecordContracts.{RecordTold};
 use super::put::put_decisions;
 use super::put::put_symbols;

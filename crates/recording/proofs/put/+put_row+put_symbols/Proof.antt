@@ -1,4 +1,5 @@
--- `put_row` and `put_symbols` meet their contracts: the symbols of an apply are its own and then its arguments' row, and a row is one argument's symbols and then the rest of the row.
+-- `put_row` and `put_symbols` meet their contracts: the symbols of an apply are its own and then its arguments' row, and a row is one argument's
+-- symbols and then the rest of the row.
 use mathlib.Core.List.{_∷_}
 use mathlib.Core.Path.{sym, ap, _∙_}
 use native.Mathlib.Omega.{arith}

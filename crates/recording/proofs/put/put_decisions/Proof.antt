@@ -1,22 +1,18 @@
 -- `put_decisions` meets its contract: after i turns the numbers of the first i words' choices stand there. The measure is how many words are left.
-use mathlib.Core.Path.{_≡_, refl, sym, ap, _∙_}
+use mathlib.Core.Path.{_≡_, refl}
 use Prim.Native.Nat.{_+_, _-_, _*_, _≤_}
 use native.Mathlib.Omega.{arith}
-use lib.ListN.{length, getD, drop}
+use lib.ListN.{length, drop}
 use Rattle.limits.specs.Sizes.{wordsOfSet}
 use Rattle.limits.specs.Decisions.{Decisions, decided}
 use Rattle.machine.specs.Answers.{decisionNumbers}
 use Rattle.standing.specs.Held.{Decided}
 use Rattle.standing.proofs.DecidedNumbers.{numbers-count}
-use Rattle.recording.specs.RecordContracts.{bitsFrom}
-use Rattle.recording.proofs.RowBegun.{Begun, begun-none, begun-room, begun-more, begun-all}
+use Rattle.recording.proofs.RowBegun.{Begun, begun-none, begun-more, begun-all}
 use Rattle.recording.proofs.BitNumbers.{word-next, words-end}
 use borrow.Author.Needs.{needs}
 use Rattle.recording.proofs.put.put_decisions.Statement.{statement}
 use Rattle.recording.proofs.put.put_decisions.Tie as tie
-use Rattle.recording.proofs.put.put_decisions.Reads as reads
-use Rattle.recording.proofs.put.put_decisions.Lts as lts
-use Rattle.recording.proofs.put.put_word.Reads as put-word-reads
 
 abbrev Inv-loop : tie.InvT-loop
 Inv-loop bytes₀ from ds p₀ i₀ bytes p i =

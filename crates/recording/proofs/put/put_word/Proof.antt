@@ -1,20 +1,15 @@
 -- `put_word` meets its contract: the numbers of the lowest bits stand there, and w has the bits that are left. The measure is how many those are.
-use mathlib.Core.List.{[]}
 use mathlib.Core.Logic.{⊎-elim}
 use mathlib.Core.Path.{_≡_, refl, ap, _∙_}
 use Prim.Native.Nat.{_+_, _*_, _≤_}
 use native.Mathlib.Omega.{arith}
 use lib.ListN.{length}
-use Rattle.standing.proofs.Behind.{numbers-none}
 use Rattle.recording.specs.RecordContracts.{bitsFrom}
-use Rattle.recording.proofs.RowBegun.{Begun, begun-none, begun-more, begun-one, begun-all}
+use Rattle.recording.proofs.RowBegun.{Begun, begun-none, begun-same, begun-one, begun-all}
 use Rattle.recording.proofs.BitNumbers.{bits-none, next-set, next-unset}
 use borrow.Author.Needs.{needs}
 use Rattle.recording.proofs.put.put_word.Statement.{statement}
 use Rattle.recording.proofs.put.put_word.Tie as tie
-use Rattle.recording.proofs.put.put_word.Reads as reads
-use Rattle.recording.proofs.put.put_word.Lts as lts
-use Rattle.recording.proofs.put.put_two.Reads as put-two-reads
 
 abbrev Inv-loop : tie.InvT-loop
 Inv-loop bytes₀ word first from p₀ w₀ i₀ left₀ bytes p w i left =
@@ -60,7 +55,7 @@ loop-again c =
       ⊎-elim (λ w. rw (w .5) (omega (arith, w .2 .kept .0))) (λ w. rw (w .1) (inv .2)) (c .if2 .came),
       λ fits. ⊎-elim
           (λ w. rw (w .5, w .6) (begun-one (inv .3 fits) (loop .i) _ _ _ (next-set (loop .i) (loop .w) (loop .left) some-left (w .0 .taken)) (w .2 .ensures)))
-          (λ w. rw (w .1, w .2) (begun-more (inv .3 fits) [] _ _ _ (next-unset (loop .i) (loop .w) (loop .left) some-left (w .0 .left)) (λ _. numbers-none (loop .bytes) (loop .p))))
+          (λ w. rw (w .1, w .2) (begun-same (inv .3 fits) _ (next-unset (loop .i) (loop .w) (loop .left) some-left (w .0 .left))))
           (c .if2 .came),
     )
 

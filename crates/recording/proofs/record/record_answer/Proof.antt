@@ -1,19 +1,19 @@
 -- `record_answer` meets its contract: length, question's number, symbol count, symbols and decisions stand one behind the other, and are the record.
-use mathlib.Core.Bool.{true, false}
-use mathlib.Core.List.{[], _∷_, _++_}
+use mathlib.Core.List.{_∷_, _++_}
 use mathlib.Core.Logic.{⊎-elim}
 use mathlib.Core.Path.{_≡_, refl, sym, ap, _∙_}
 use Prim.Native.Nat.{suc, _+_, _*_, _≤_}
 use native.Mathlib.Omega.{arith}
 use lib.ListN.{length}
 use Rattle.limits.specs.Sizes.{mostDepth}
-use Rattle.limits.specs.Decisions.{decided}
+use Rattle.limits.specs.Decisions.{Decisions}
+use Rattle.nodes.specs.Nodes.{Heap}
 use Rattle.machine.specs.Answers.{symbolsFrom, decisionNumbers}
 use Rattle.alike.specs.Asked.{asking}
-use Rattle.standing.proofs.Behind.{numbers-none}
+use Rattle.standing.specs.Held.{Decided}
 use Rattle.standing.proofs.DecidedNumbers.{numbers-count}
-use Rattle.recording.proofs.RowBegun.{Begun, begun-none, begun-more, begun-one, begun-last}
-use Rattle.recording.proofs.RecordParts.{asked, unasked, ones-decided, numbersBehind, record-refused, record-room, record-written}
+use Rattle.recording.proofs.RowBegun.{Begun, begun-none, begun-more, begun-same, begun-one, begun-last}
+use Rattle.recording.proofs.RecordParts.{asked, unasked, ones-decided, numbersBehind, Counts, parts-counted, record-refused, record-written}
 use borrow.Author.Needs.{needs}
 use Rattle.recording.proofs.record.record_answer.Statement.{statement}
 use Rattle.recording.proofs.record.record_answer.Tie as tie
@@ -49,6 +49,18 @@ own-counted c =
     ⊎-elim (λ w. w .1 ∙ ap (λ l. suc (length l)) (sym (asked (a .row) (a .question) (w .0 .taken))))
     (λ w. w .1 ∙ ap (λ l. suc (length l)) (sym (unasked (a .row) (a .question) (w .0 .left)))) (c .if2 .came)
 
+-- the numbers that are counted are those of the record
+counts : (c : lts.After-decided claims reads.Pre reads.Post) (h : Heap) (sides : Decisions)
+    → let a = c .before .before .before .before .before .before .args in
+    let symbols = symbolsFrom (suc mostDepth) h (a .root) in
+    Decided (a .ds .words) sides → a .symbols ≡ length symbols
+    → Counts (a .row) (a .question) symbols sides (c .before .before .if2 .own + a .symbols + c .decided .result)
+counts c h sides means many =
+    let a = c .before .before .before .before .before .before .args in
+    let symbols = symbolsFrom (suc mostDepth) h (a .root) in
+    let parts = parts-counted (a .row) (a .question) symbols sides (c .before .before .if2 .own) (own-counted (c .before .before)) in
+    record { many = omega (arith, c .decided .ensures .0, ones-decided means) }
+
 returns : tie.Need-returns
 returns c = λ h sides held means inside many few there. absurd (omega arith)
 
@@ -74,17 +86,7 @@ returns-2 : tie.Need-returns-2
 returns-2 c = λ h sides held means inside many few there. absurd (omega arith)
 
 returns-3 : tie.Need-returns-3
-returns-3 c =
-    let a = c .before .before .before .before .before .before .before .before .args in
-    let joined = c .before .before .before .before in
-    let counted = c .before .before .decided in
-    λ h sides held means inside many few there.
-    let symbols = symbolsFrom (suc mostDepth) h (a .root) in
-    let own = joined .if2 .own in
-    let numbers = own + a .symbols + counted .result in
-    let count : numbers ≡ own + length symbols + decided sides = omega (arith, many, counted .ensures .0, ones-decided means) in
-    record-refused (a .row) (a .question) symbols sides own numbers (own-counted joined) count
-    (a .shapes .now) (a .nodes .now) (a .used) (a .bytes .now) (a .written) (omega arith)
+returns-3 c = λ h sides held means inside many few there. record-refused (counts (c .before .before) h sides means many) (omega arith)
 
 mul-put-two : tie.Need-mul-put-two
 mul-put-two c = search needs
@@ -115,43 +117,42 @@ put-decisions-requires c κs = search needs
 
 same-length : tie.Need-same-length
 same-length c =
-    let one = c .before .before .before .before .before .before .before .before .before .before .before .before .before .before .before .put-two in
-    let asked-too = c .before .before .before .before .before .before .before .before .before .before .before .before .if5 in
+    let joined = c .before .before .before .before .before .before .before .before .before .before .before .before in
+    let one = joined .before .before .before .put-two in
     let two = c .before .before .before .before .before .before .before .before .before .before .put-two3 in
     let three = c .before .before .before .before .before .before .put-symbols in
     let four = c .before .before .put-decisions in
-    let kept : length (asked-too .bytes) ≡ length (one .last .0) = ⊎-elim (λ w. rw (w .5) (w .2 .kept .0)) (λ w. rw (w .1)) (asked-too .came) in
+    let kept : length (joined .if5 .bytes) ≡ length (one .last .0) = ⊎-elim (λ w. rw (w .5) (w .2 .kept .0)) (λ w. rw (w .1)) (joined .if5 .came) in
     omega (arith, four .kept .0, three .kept .1 .1 .1 .0, two .kept .0, kept, one .kept .0)
 
 returns-4 : tie.Need-returns-4
 returns-4 c =
-    let a = c .before .before .before .before .before .before .before .before .before .before .before .before .before .before .before .before .before .before .before .before .before .before .before .before .before .args in
-    let joined = c .before .before .before .before .before .before .before .before .before .before .before .before .before .before .before .before .before .before .before .before .before in
-    let counted = c .before .before .before .before .before .before .before .before .before .before .before .before .before .before .before .before .before .before .before .decided in
-    let one = c .before .before .before .before .before .before .before .before .before .before .before .before .before .before .before .put-two in
-    let asked-too = c .before .before .before .before .before .before .before .before .before .before .before .before .if5 in
-    let two = c .before .before .before .before .before .before .before .before .before .before .put-two3 in
-    let three = c .before .before .before .before .before .before .put-symbols in
     let four = c .before .before .put-decisions in
+    let three = c .before .before .before .before .before .before .put-symbols in
+    let two = c .before .before .before .before .before .before .before .before .before .before .put-two3 in
+    let joined = c .before .before .before .before .before .before .before .before .before .before .before .before in
+    let one = joined .before .before .before .put-two in
+    let tested = joined .before .before .before .before .before in
+    let counted = tested .before .before in
+    let own = counted .before .before .if2 .own in
+    let a = counted .before .before .before .before .before .before .args in
     λ h sides held means inside many few there.
     let symbols = symbolsFrom (suc mostDepth) h (a .root) in
-    let own = joined .if2 .own in
-    let numbers = own + a .symbols + counted .result in
-    let count : numbers ≡ own + length symbols + decided sides = omega (arith, many, counted .ensures .0, ones-decided means) in
-    let room : a .written + (2 + 2 * numbers) ≤ length (a .bytes .now) = omega (arith, c .before .before .before .before .before .before .before .before .before .before .before .before .before .before .before .before .before .if4 .left) in
+    let numbers = own + a .symbols + counted .decided .result in
+    let count : Counts (a .row) (a .question) symbols sides numbers = counts counted h sides means many in
+    let room : a .written + (2 + 2 * numbers) ≤ length (a .bytes .now) = omega (arith, tested .if4 .left) in
     let rest = length symbols ∷ (symbols ++ decisionNumbers 0 sides) in
     let all = (2 * numbers) ∷ numbersBehind (a .row) (a .question) symbols sides in
-    let fits = record-room (a .row) (a .question) symbols sides own numbers (own-counted joined) count (a .shapes .now) (a .nodes .now) (a .used) (a .bytes .now) (a .written) room in
-    let first = begun-one (begun-none (a .bytes .now) (a .written) all fits) (2 * numbers) _ _ _ refl (one .ensures) in
-    let second : Begun (a .bytes .now) (a .written) all (asked-too .bytes) (asked-too .p) rest =
+    let first = begun-one (begun-none (a .bytes .now) (a .written) all (omega (arith, count .many))) (2 * numbers) _ _ _ refl (one .ensures) in
+    let second : Begun (a .bytes .now) (a .written) all (joined .if5 .bytes) (joined .if5 .p) rest =
     ⊎-elim
-        (λ w. rw (w .5, w .6) (begun-one first (a .question) rest _ _ (ap (λ l. l ++ rest) (asked (a .row) (a .question) (w .0 .taken))) (w .2 .ensures)))
-        (λ w. rw (w .1, w .2) (begun-more first [] rest _ _ (ap (λ l. l ++ rest) (unasked (a .row) (a .question) (w .0 .left))) (λ _. numbers-none (one .last .0) (one .result))))
-        (asked-too .came) in
+    (λ w. rw (w .5, w .6) (begun-one first (a .question) rest _ _ (ap (λ l. l ++ rest) (asked (a .row) (a .question) (w .0 .taken))) (w .2 .ensures)))
+    (λ w. rw (w .1, w .2) (begun-same first rest (ap (λ l. l ++ rest) (unasked (a .row) (a .question) (w .0 .left)))))
+    (joined .if5 .came) in
     let third = begun-one second (a .symbols) _ _ _ (ap (λ k. k ∷ (symbols ++ decisionNumbers 0 sides)) (sym many)) (two .ensures) in
     let fourth = begun-more third symbols (decisionNumbers 0 sides) _ _ refl (three .ensures h held inside) in
     let last = begun-last fourth _ _ (λ fits. (refl, four .ensures sides means (omega (arith, numbers-count 0 sides)))) in
-    record-written (a .row) (a .question) symbols sides own numbers (own-counted joined) count (a .shapes .now) (a .nodes .now) (a .used) (a .bytes .now) (a .written) room _ _ last
+    record-written count room last
 
 pub record-answer-spec : {M : Type 1} → statement M
 record-answer-spec =
