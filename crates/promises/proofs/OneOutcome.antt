@@ -32,11 +32,11 @@ use Rattle.converter.specs.declared.Conversion.{Conversion}
 use Rattle.converter.specs.Convert.{Outcome as Conversions}
 use Rattle.converter.specs.InCode.{after as convertedAs}
 use Rattle.listings.specs.declared.write.Written.{Written as ListingWritten}
-use Rattle.listings.specs.declared.circle.Saved.{Saved}
+use Rattle.circles.specs.declared.circle.Saved.{Saved}
 use Rattle.tagged.specs.Write.{Outcome as ListingBook}
 use Rattle.tagged.specs.Saved.{Outcome as SavedAs}
 use Rattle.listings.specs.Putting.{outcomeOf as listedAs}
-use Rattle.listings.specs.Saving.{outcomeOf as savedBy}
+use Rattle.circles.specs.Saving.{outcomeOf as savedBy}
 use Rattle.figures.specs.declared.Figured.{Figured}
 use Rattle.figures.specs.Figures.{Outcome as Figures}
 use Rattle.figures.specs.InCode.{after as figuredAs}

@@ -30,8 +30,9 @@ use Rattle.book.proofs.read_question as read-question
 use Rattle.book.proofs.rows_read as rows-read
 use Rattle.writer.proofs.write_book as write-book
 use Rattle.converter.proofs.convert_book as convert-book
+use Rattle.terms.proofs.terms_of as terms-of
 use Rattle.listings.proofs.write_listing as write-listing
-use Rattle.listings.proofs.save_listing as save-listing
+use Rattle.circles.proofs.save_listing as save-listing
 use Rattle.nodes.proofs.Row.apply as row-apply
 use Rattle.nodes.proofs.Row.choice as row-choice
 use Rattle.nodes.proofs.Row.fail as row-fail
@@ -139,10 +140,15 @@ write-book-one = by-claim write-book.ended (λ κs a z z′ e e′. one-written 
 pub convert-book-one : OneOutcome convert-book.ended (λ κs z z′ e e′. (z ≡ z′) × (now (e .1 .0) ≡ now (e′ .1 .0))) (λ M. convert-book.clauses)
 convert-book-one = by-claim convert-book.ended (λ κs a z z′ e e′. one-converted z z′ (now (e .1 .0)) (now (e′ .1 .0)))
 
--- crate `tagged`
+-- crate `terms`
+pub terms-of-one : OneResult terms-of.ended (λ M. terms-of.clauses)
+terms-of-one = by-claim terms-of.ended (λ κs a z z′ e e′. one-bounded)
+
+-- crate `listings`
 pub write-listing-one : OneOutcome write-listing.ended (λ κs z z′ e e′. (z ≡ z′) × (now (e .1 .0) ≡ now (e′ .1 .0))) (λ M. write-listing.clauses)
 write-listing-one = by-claim write-listing.ended (λ κs a z z′ e e′. one-listed z z′ (now (e .1 .0)) (now (e′ .1 .0)))
 
+-- crate `circles`
 pub save-listing-one : OneOutcome save-listing.ended (λ κs z z′ e e′. (z ≡ z′) × (now (e .1 .0) ≡ now (e′ .1 .0))) (λ M. save-listing.clauses)
 save-listing-one = by-claim save-listing.ended (λ κs a z z′ e e′. one-saved z z′ (now (e .1 .0)) (now (e′ .1 .0)))
 
