@@ -21,7 +21,7 @@ use Rattle.reading.specs.declared.Reading.{Reading as Answered}
 use Rattle.reading.specs.declared.Reading.the-variants.{Got, Refusal}
 use Rattle.reading.specs.Reading.{Reading}
 use Rattle.reading.specs.Answer.{readingOf}
-use Rattle.symbols.specs.declared.part.SymbolPart.{SymbolPart}
+use Rattle.symbol_part.specs.declared.SymbolPart.{SymbolPart}
 use Rattle.book.specs.declared.BookIndex.{BookIndex}
 use Rattle.writer.specs.declared.Written.{Written}
 use Rattle.writer.specs.Write.{Outcome as Writing}

@@ -22,11 +22,11 @@ use Rattle.symbols.proofs.table.is_operation as is-operation
 use Rattle.symbols.proofs.table.sort_of as sort-of
 use Rattle.symbols.proofs.table.arguments_of as arguments-of
 use Rattle.symbols.proofs.table.arity_of as arity-of
-use Rattle.symbols.proofs.part.read_symbol_part as read-symbol-part
-use Rattle.symbols.proofs.part.symbols_read as symbols-read
+use Rattle.symbol_part.proofs.read_symbol_part as read-symbol-part
+use Rattle.symbol_part.proofs.symbols_read as symbols-read
 use Rattle.expressions.proofs.read_whole as read-whole
 use Rattle.book.proofs.read_book as read-book
-use Rattle.book.proofs.read_question as read-question
+use Rattle.question.proofs.read_question as read-question
 use Rattle.book.proofs.rows_read as rows-read
 use Rattle.writer.proofs.write_book as write-book
 use Rattle.converter.proofs.convert_book as convert-book
@@ -44,7 +44,7 @@ use Rattle.nodes.proofs.arrow_at as arrow-at
 use Rattle.nodes.proofs.follow
 use Rattle.nodes.proofs.put
 use Rattle.nodes.proofs.put_forward as put-forward
-use Rattle.nodes.proofs.pull_up as pull-up
+use Rattle.pulls.proofs.pull_up as pull-up
 use Rattle.figures.proofs.add_figures as add-figures
 use Rattle.run.proofs.run
 use Rattle.run.proofs.run_owned as run-owned
@@ -112,6 +112,7 @@ arguments-of-one = by-claim arguments-of.ended (λ κs a z z′ e e′. one-boun
 pub arity-of-one : OneResult arity-of.ended (λ M. arity-of.clauses)
 arity-of-one = by-claim arity-of.ended (λ κs a z z′ e e′. one-bounded)
 
+-- crate `symbol_part`
 pub read-symbol-part-one : OneResult read-symbol-part.ended (λ M. read-symbol-part.clauses)
 read-symbol-part-one = by-claim read-symbol-part.ended (λ κs a z z′ e e′. one-symbol-part z z′)
 
@@ -126,11 +127,12 @@ read-whole-one = by-claim read-whole.ended (λ κs a z z′ e e′. one-reading 
 pub read-book-one : OneResult read-book.ended (λ M. read-book.clauses)
 read-book-one = by-claim read-book.ended (λ κs a z z′ e e′. one-index z z′)
 
-pub read-question-one : OneResult read-question.ended (λ M. read-question.clauses)
-read-question-one = by-claim read-question.ended (λ κs a z z′ e e′. one-reading z z′)
-
 pub rows-read-one : OneResult rows-read.ended (λ M. rows-read.clauses)
 rows-read-one = by-claim rows-read.ended (λ κs a z z′ e e′. one-bounded)
+
+-- crate `question`
+pub read-question-one : OneResult read-question.ended (λ M. read-question.clauses)
+read-question-one = by-claim read-question.ended (λ κs a z z′ e e′. one-reading z z′)
 
 -- crate `writer`
 pub write-book-one : OneOutcome write-book.ended (λ κs z z′ e e′. (z ≡ z′) × (now (e .1 .1 .0) ≡ now (e′ .1 .1 .0))) (λ M. write-book.clauses)
@@ -186,6 +188,7 @@ put-one = by-claim put.ended (λ κs a z z′ e e′. one-value)
 pub put-forward-one : OneOutcome put-forward.ended (λ κs z z′ e e′. now (e .0) ≡ now (e′ .0)) (λ M. put-forward.clauses)
 put-forward-one = by-claim put-forward.ended (λ κs a z z′ e e′. one-value)
 
+-- crate `pulls`
 pub pull-up-one : OneOutcome pull-up.ended (λ κs z z′ e e′. (z ≡ z′) × (now (e .0) ≡ now (e′ .0))) (λ M. pull-up.clauses)
 pull-up-one = by-claim pull-up.ended (λ κs a z z′ e e′ one other. (one-value (one .0) (other .0), one-value (one .1) (other .1)))
 
