@@ -45,12 +45,14 @@ use Rattle.nodes.proofs.follow
 use Rattle.nodes.proofs.put
 use Rattle.nodes.proofs.put_forward as put-forward
 use Rattle.pulls.proofs.pull_up as pull-up
+use Rattle.tallies.proofs.tally
+use Rattle.tallies.proofs.take_back as take-back
 use Rattle.figures.proofs.add_figures as add-figures
 use Rattle.run.proofs.run
 use Rattle.run.proofs.run_owned as run-owned
 use Rattle.promises.proofs.Contracts.{leftBy}
 use Rattle.promises.proofs.OneOutcome.{OneOutcome, OneResult, by-claim, one-value, one-bounded, one-set, one-row, one-reading}
-use Rattle.promises.proofs.OneOutcome.{one-symbol-part, one-index, one-written, one-converted, one-listed, one-saved, one-figured, one-run, one-owned}
+use Rattle.promises.proofs.OneOutcome.{one-symbol-part, one-index, one-written, one-converted, one-listed, one-saved, one-added, one-less, one-figured, one-run, one-owned}
 
 -- crate `limits`
 pub all-open-one : OneResult all-open.ended (λ M. all-open.clauses)
@@ -191,6 +193,13 @@ put-forward-one = by-claim put-forward.ended (λ κs a z z′ e e′. one-value)
 -- crate `pulls`
 pub pull-up-one : OneOutcome pull-up.ended (λ κs z z′ e e′. (z ≡ z′) × (now (e .0) ≡ now (e′ .0))) (λ M. pull-up.clauses)
 pull-up-one = by-claim pull-up.ended (λ κs a z z′ e e′ one other. (one-value (one .0) (other .0), one-value (one .1) (other .1)))
+
+-- crate `tallies`
+pub tally-one : OneOutcome tally.ended (λ κs z z′ e e′. (z ≡ z′) × (now (e .1 .1 .0) ≡ now (e′ .1 .1 .0))) (λ M. tally.clauses)
+tally-one = by-claim tally.ended (λ κs a z z′ e e′. one-added z z′ (now (e .1 .1 .0)) (now (e′ .1 .1 .0)))
+
+pub take-back-one : OneOutcome take-back.ended (λ κs z z′ e e′. now (e .1 .1 .0) ≡ now (e′ .1 .1 .0)) (λ M. take-back.clauses)
+take-back-one = by-claim take-back.ended (λ κs a z z′ e e′. one-less _ (now (e .1 .1 .0)) (now (e′ .1 .1 .0)))
 
 -- crate `figures`
 pub add-figures-one : OneOutcome add-figures.ended (λ κs z z′ e e′. (z ≡ z′) × (now (e .1 .0) ≡ now (e′ .1 .0))) (λ M. add-figures.clauses)

@@ -6,21 +6,21 @@ use native.Mathlib.Numerals.{add-one}
 use native.Mathlib.Omega.{arith}
 use borrow.Author.Needs.{needs}
 use borrow.Author.Tests.{not-true, not-false}
-use Rattle.figures.specs.InCode.{TakenBack, answerOver}
-use Rattle.figures.proofs.Taking.{none-back, again-back, new-back}
-use Rattle.figures.proofs.tally.take_back.Statement.{statement}
-use Rattle.figures.proofs.tally.take_back.Tie as tie
+use Rattle.tallies.specs.InCode.{TakenBack, answerOver}
+use Rattle.tallies.proofs.Taking.{none-back, again-back, new-back}
+use Rattle.tallies.proofs.take_back.Statement.{statement}
+use Rattle.tallies.proofs.take_back.Tie as tie
 
 abbrev Inv-loop : tie.InvT-loop
-Inv-loop books count from totals₀ p₀ i₀ totals p i = (i ≤ count) × (p ≡ from + 2 * i) × TakenBack totals₀ (answerOver books i from) totals
+Inv-loop symbols count totals₀ p₀ i₀ totals p i = (i ≤ count) × (p ≡ 0 + 2 * i) × TakenBack totals₀ (answerOver symbols i 0) totals
 
 abbrev μ-loop : tie.MeasureT-loop
-μ-loop books count from totals₀ p₀ i₀ totals p i = count - i
+μ-loop symbols count totals₀ p₀ i₀ totals p i = count - i
 
 loop-holds : tie.Need-loop-holds Inv-loop μ-loop
 loop-holds c =
     let a = c .before .before .args in
-    (omega arith, omega arith, none-back (a .books .now) (a .totals .now) (a .from))
+    (omega arith, omega arith, none-back (a .symbols .now) (a .totals .now) 0)
 
 number-requires : tie.Need-number-requires Inv-loop μ-loop
 number-requires c κs = search needs
@@ -46,13 +46,13 @@ loop-again c =
     let f = stands .before .number in
     let loop = stands .before .before .before .loop in
     let a = stands .before .before .before .before .before .before .args in
-    let books = a .books .now in (
+    let symbols = a .symbols .now in (
       omega arith,
       omega arith,
       ⊎-elim
-          (λ w. rw (w .5) (new-back books (loop .i) (loop .i + 1) (a .from) (loop .p) (f .result) (add-one (loop .i)) (loop .inv .1) (f .ensures .0)
+          (λ w. rw (w .5) (new-back symbols (loop .i) (loop .i + 1) 0 (loop .p) (f .result) (add-one (loop .i)) (loop .inv .1) (f .ensures .0)
           (sym (stands .stands .ensures) ∙ not-true _ (w .0 .taken)) (loop .totals) _ (loop .inv .2) (w .2 .ensures)))
-          (λ w. rw (w .1) (again-back books (loop .i) (loop .i + 1) (a .from) (loop .p) (f .result) (add-one (loop .i)) (loop .inv .1) (f .ensures .0)
+          (λ w. rw (w .1) (again-back symbols (loop .i) (loop .i + 1) 0 (loop .p) (f .result) (add-one (loop .i)) (loop .inv .1) (f .ensures .0)
           (sym (stands .stands .ensures) ∙ not-false _ (w .0 .left)) (loop .inv .2)))
           (c .if1 .came),
     )

@@ -2,9 +2,9 @@
 use mathlib.Core.Path.{refl}
 use borrow.Author.Needs.{needs}
 use native.Mathlib.Omega.{arith}
-use Rattle.figures.proofs.Taking.{less-none, less-past}
-use Rattle.figures.proofs.tally.one_less.Statement.{statement}
-use Rattle.figures.proofs.tally.one_less.Tie as tie
+use Rattle.tallies.proofs.Taking.{less-none, less-past}
+use Rattle.tallies.proofs.one_less.Statement.{statement}
+use Rattle.tallies.proofs.one_less.Tie as tie
 
 mul-total : tie.Need-mul-total
 mul-total c = search needs

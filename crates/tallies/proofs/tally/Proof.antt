@@ -8,21 +8,21 @@ use native.Mathlib.Numerals.{add-one}
 use native.Mathlib.Omega.{arith}
 use borrow.Author.Needs.{needs}
 use borrow.Author.Tests.{not-true, not-false}
-use Rattle.figures.specs.Figures.{tallied}
-use Rattle.figures.proofs.TallyWays.{Left, all-left, none-left, seen-before, past-row, past-bits, counts}
-use Rattle.figures.proofs.tally.tally.Statement.{statement}
-use Rattle.figures.proofs.tally.tally.Tie as tie
+use Rattle.tallies.specs.Tallied.{tallied}
+use Rattle.tallies.proofs.TallyWays.{Left, all-left, none-left, seen-before, past-row, past-bits, counts}
+use Rattle.tallies.proofs.tally.Statement.{statement}
+use Rattle.tallies.proofs.tally.Tie as tie
 
 abbrev Inv-loop : tie.InvT-loop
-Inv-loop books count from totals₀ p₀ i₀ totals p i = (i ≤ count) × Left books totals₀ from (tallied books totals₀ [] count from) i (count - i) p totals
+Inv-loop symbols count totals₀ p₀ i₀ totals p i = (i ≤ count) × Left symbols totals₀ 0 (tallied symbols totals₀ [] count 0) i (count - i) p totals
 
 abbrev μ-loop : tie.MeasureT-loop
-μ-loop books count from totals₀ p₀ i₀ totals p i = count - i
+μ-loop symbols count totals₀ p₀ i₀ totals p i = count - i
 
 loop-holds : tie.Need-loop-holds Inv-loop μ-loop
 loop-holds c =
     let a = c .before .before .args in
-    (omega arith, all-left (a .books .now) (a .totals .now) (a .count) (a .from) (a .count - 0) (sub-zero (a .count)))
+    (omega arith, all-left (a .symbols .now) (a .totals .now) (a .count) 0 (a .count - 0) (sub-zero (a .count)))
 
 number-requires : tie.Need-number-requires Inv-loop μ-loop
 number-requires c κs = search needs

@@ -12,14 +12,18 @@ use lib.Seq.{getD-set-same, getD-set-other}
 use Rattle.reading.specs.Reading.{Reading}
 use Rattle.reading.specs.Bytes.{bigEndian}
 use Rattle.book.specs.TreeAt.{isIn}
-use Rattle.figures.specs.Figures.{mostTotal, tallied}
-use Rattle.figures.specs.Counts.{howMany, symbolsAt}
-use Rattle.figures.proofs.Exactly.{Exactly, read, unless, either, so}
+use Rattle.tallies.specs.Tallied.{mostTotal, tallied}
+use Rattle.tallies.specs.Tallied.{howMany, symbolsAt}
+use Rattle.tallies.proofs.Exactly.{Exactly, read, unless, either, so}
 
 -- a row to whose total at each f so many were added
 pub record Added (row : List ℕ) (many : ℕ → ℕ) (row′ : List ℕ) : Type 0 where
   pub long : length row′ ≡ length row
   pub total : (f : ℕ) → f < length row → getD row′ f 0 ≡ getD row f 0 + many f
+
+-- the row with these answers counted in its totals
+abbrev pub WithAnswers : List ℕ → List (List ℕ) → List ℕ → Type 0
+WithAnswers row answers row′ = Added row (λ f. howMany f answers) row′
 
 -- a row that has room for so many: each symbol to be counted has a total, which stays within 32 bits
 abbrev RoomAt : List ℕ → ℕ → ℕ → Type 0

@@ -14,12 +14,12 @@ use Rattle.reading.specs.Answer.{keeping, nothing}
 use Rattle.reading.specs.declared.Reading.the-variants.{Got, Refusal}
 use Rattle.reading.proofs.Keeping.{kept-got, kept-refusal, passed, failed-test}
 use Rattle.book.specs.TreeAt.{isIn}
-use Rattle.figures.specs.Figures.{mostTotal, tallied}
-use Rattle.figures.specs.Counts.{symbolsAt}
-use Rattle.figures.specs.InCode.{leftOf, AddedAs, TakenBack, answerOver}
-use Rattle.figures.proofs.Tallying.{isIn-same, isIn-other}
-use Rattle.figures.proofs.Counting.{WithAnswers}
-use Rattle.figures.proofs.Taking.{none-new, is-new, not-new, again-added, new-added, none-added, there-and-back}
+use Rattle.tallies.specs.Tallied.{mostTotal, tallied}
+use Rattle.tallies.specs.Tallied.{symbolsAt}
+use Rattle.tallies.specs.InCode.{leftOf, AddedAs, TakenBack, answerOver}
+use Rattle.tallies.proofs.Tallying.{isIn-same, isIn-other}
+use Rattle.tallies.proofs.Tallying.{WithAnswers}
+use Rattle.tallies.proofs.Taking.{none-new, is-new, not-new, again-added, new-added, none-added, there-and-back}
 
 -- the code's answers,
 module _ {t : Reading (List ℕ)} (row : List ℕ) {row′ : List ℕ} where

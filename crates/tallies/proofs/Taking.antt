@@ -9,10 +9,10 @@ use lib.ListN.{length, getD, set, length-set}
 use lib.Seq.{getD-set-same, getD-set-other, set-getD, set-out, ext-getD}
 use Rattle.reading.specs.Bytes.{bigEndian}
 use Rattle.book.specs.TreeAt.{isIn}
-use Rattle.figures.specs.Counts.{howMany, symbolsAt}
-use Rattle.figures.specs.InCode.{TakenBack, Lessened, answerOver}
-use Rattle.figures.proofs.Tallying.{isIn-same, isIn-other}
-use Rattle.figures.proofs.Counting.{WithAnswers}
+use Rattle.tallies.specs.Tallied.{howMany, symbolsAt}
+use Rattle.tallies.specs.InCode.{TakenBack, Lessened, answerOver}
+use Rattle.tallies.proofs.Tallying.{isIn-same, isIn-other}
+use Rattle.tallies.proofs.Tallying.{WithAnswers}
 
 -- ---- k symbols, and one more behind them
 
@@ -59,12 +59,12 @@ module _ (bs : List ℕ) where
       by (no other) behind = isIn-other (symbolsAt bs (suc k) (p + 2)) other ∙ behind ∙ sym (isIn-other (symbolsAt bs k (p + 2)) other)
 
   -- so it is looked for from the last one on
-  module _ {f : ℕ} (k left from : ℕ) (more : k ≡ suc left) where
-    pub found-last : bigEndian bs (from + 2 * left) ≡ f → isIn f (symbolsAt bs k from) ≡ true
-    found-last same = rw more (last-same left from (sym same))
+  module _ {f : ℕ} (k left from p : ℕ) (more : k ≡ suc left) (place : p ≡ from + 2 * left) where
+    pub found-last : bigEndian bs p ≡ f → isIn f (symbolsAt bs k from) ≡ true
+    found-last same = rw more (last-same left from (sym same ∙ ap (bigEndian bs) place))
 
-    pub found-before : (bigEndian bs (from + 2 * left) ≡ f → ⊥) → isIn f (symbolsAt bs k from) ≡ isIn f (symbolsAt bs left from)
-    found-before other = rw more (last-other left from (λ same. other (sym same)))
+    pub found-before : (bigEndian bs p ≡ f → ⊥) → isIn f (symbolsAt bs k from) ≡ isIn f (symbolsAt bs left from)
+    found-before other = rw more (last-other left from (λ same. other (ap (bigEndian bs) place ∙ sym same)))
 
   -- one more, g, behind i of them
   module _ (i i′ from p g : ℕ) (more : i′ ≡ suc i) (place : p ≡ from + 2 * i) (is : g ≡ bigEndian bs p) where
