@@ -3,7 +3,7 @@
 ghost use Prim.Native.Nat.{_<_, _≤_};
 ghost use lib.ListN.{length};
 use book::read_book;
-use book::read_question;
+use question::read_question;
 use reading::Reading;
 use reading::part_of;
 use tables::behind;

@@ -12,7 +12,7 @@ use lib.Seq.{drop-cons, drop-drop, getD-drop}
 use Rattle.limits.specs.Sizes.{mostVariables, sortsOfAByte}
 use Rattle.symbols.specs.Symbols.{Symbol, Symbols, noSymbol, isConstructorOf, constructorsOf}
 use Rattle.symbols.specs.Table.{symbolIn, symbolsIn, firstFrom}
-use Rattle.symbols.proofs.Chains.{stops, first-in-array, next-in-array}
+use Rattle.symbol_part.proofs.Chains.{stops, first-in-array, next-in-array}
 use Rattle.symbols.proofs.Tables.{symbol-there, as-many}
 use Rattle.book.specs.TreeAt.{bindsPast}
 use Rattle.book.specs.Reader.{Chained}

@@ -7,6 +7,5 @@ pub mod Constructors
 pub mod Branches
 pub mod CaseWays
 pub mod TreeTold
-pub mod Questions
 pub mod BookWays
 pub mod CountWays

@@ -1,4 +1,4 @@
-// Admission of a whole book and a whole question, and the index that a run needs.
+// Admission of a whole book, and the index that a run needs.
 ghost use mathlib.Core.Path.{_≡_};
 ghost use Prim.Native.Nat.{_+_, _≤_};
 ghost use mathlib.Core.List.{[]};
@@ -8,7 +8,7 @@ ghost use Rattle.reading.specs.declared.Reading.the-variants.{Refusal};
 ghost use Rattle.reading.specs.Answer.{readingOf, keeping, nothing};
 ghost use Rattle.symbols.specs.Table.{symbolsIn, inArray};
 ghost use Rattle.book.specs.Rules.{Rules};
-ghost use Rattle.book.specs.Admission.{readBook, questionOpened, askedAt, readQuestion};
+ghost use Rattle.book.specs.Admission.{readBook};
 ghost use Rattle.book.specs.Index.{atAfter, infoAfter, endsAfter};
 ghost use Rattle.book.specs.RowsRead.{rowsRead};
 
@@ -22,8 +22,8 @@ use reading::Reading;
 use reading::byte;
 use reading::byte_at;
 use reading::length_at;
-use symbols::part::read_symbol_part;
-use symbols::part::symbols_read;
+use symbol_part::read_symbol_part;
+use symbol_part::symbols_read;
 use trees::TreePart;
 use trees::read_tree_part;
 use trees::trees_read;
@@ -103,86 +103,5 @@ pub fn rows_read(book: &[u8]) -> usize
             let first = symbols.first;
             count + trees_read(book, &at[0..count], &next_of, &first, next)
         }
-    }
-}
-
-// Size, version and length of a question: its end, and the place of its sort.
-fn open_question(question: &[u8]) -> Reading
-    ensures { λ r. ⌜ readingOf r ≡ questionOpened (now (question .entry)) ⌝ }
-{
-    if Limits::QUESTION < question.len() {
-        return Reading::Refusal {
-            number: 11,
-            place: 0,
-        };
-    }
-    match byte_at(question, Asker::Question, question.len(), 0) {
-        Reading::Refusal { number, place } => Reading::Refusal { number, place },
-        Reading::Got {
-            value: version,
-            next,
-        } => {
-            if version == 0 {
-                return Reading::Refusal {
-                    number: 12,
-                    place: 0,
-                };
-            }
-            if 2 < version {
-                return Reading::Refusal {
-                    number: 12,
-                    place: 0,
-                };
-            }
-            length_at(question, Asker::Question, question.len(), next)
-        }
-    }
-}
-
-// The sort byte at q and the expression behind it, in a rest that ends at e.
-fn read_asked<'a>(book: &'a [u8], at: &[u16], question: &'a [u8], e: usize, q: usize) -> Reading
-    requires { ⌜ e ≤ length (now question) ⌝ }
-    ensures { λ r. ⌜ readingOf r ≡ keeping nothing (askedAt (symbolsIn (now (book .entry)) (now (at .entry))) (now (question .entry)) e q) ⌝ }
-{
-    match byte_at(question, Asker::Question, e, q) {
-        Reading::Refusal { number, place } => Reading::Refusal { number, place },
-        Reading::Got { value: _, next } => {
-            let sort = byte(question, q);
-            if Limits::LAST_SORT < sort {
-                return Reading::Refusal {
-                    number: 13,
-                    place: q,
-                };
-            }
-            let none = [0u8; 0];
-            match read_whole(book, question, Asker::Question, at, e, &none, sort, next) {
-                Reading::Refusal { number, place } => Reading::Refusal { number, place },
-                Reading::Got { value: _, next: t } => {
-                    if t < e {
-                        return Reading::Refusal {
-                            number: 11,
-                            place: t,
-                        };
-                    }
-                    if t < question.len() {
-                        return Reading::Refusal {
-                            number: 11,
-                            place: t,
-                        };
-                    }
-                    Reading::Got { value: 0, next: t }
-                }
-            }
-        }
-    }
-}
-
-// A question to the book whose symbols have the places `at`. Where it is admitted its expression stands from place 4 to its end.
-pub fn read_question<'a>(book: &'a [u8], at: &[u16], question: &'a [u8]) -> Reading
-    ensures { λ r. ⌜ readingOf r ≡ keeping nothing (readQuestion (symbolsIn (now (book .entry)) (now (at .entry))) (now (question .entry))) ⌝ }
-{
-    match open_question(question) {
-        Reading::Refusal { number, place } => Reading::Refusal { number, place },
-        Reading::Got { value: e, next: q } => read_asked(book, at, question, e, q),
     }
 }

@@ -2,7 +2,7 @@
 // level, and with one the headings that stand in it, in order, each behind the line of its BT that leads to the next: the lines to look at.
 ghost use Prim.Native.Nat.{_<_, _≤_};
 ghost use lib.ListN.{length};
-use listings::save_listing;
+use circles::save_listing;
 use reading::byte;
 use reading::part_of;
 use tables::show_item;

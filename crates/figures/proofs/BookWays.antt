@@ -15,15 +15,17 @@ use Rattle.reading.specs.declared.Reading.the-variants.{Got, Refusal}
 use Rattle.reading.proofs.Good.{Good, good, good-got, each, then-good, unless}
 use Rattle.reading.proofs.Keeping.{kept-got, kept-refusal, then-got, then-refusal, passed, failed-test}
 use Rattle.figures.specs.AnswerBook.{rising, recordAt}
-use Rattle.figures.specs.Figures.{tallied, symbolsAdded, answerAt, recordsAt, bookEnd, bookAt, booksAt, endedAs, figures}
-use Rattle.figures.specs.Counts.{howMany}
-use Rattle.figures.specs.InCode.{countOf, AddedAs, TakenBack, answerOver, recordOver, behindRecord, recordsOver, bookOver, after}
-use Rattle.figures.proofs.Exactly.{whatever}
-use Rattle.figures.proofs.Tallying.{Added, adds, once, tallied-added}
-use Rattle.figures.proofs.Counting.{WithAnswers}
+use Rattle.tallies.specs.Tallied.{tallied}
+use Rattle.figures.specs.Figures.{symbolsAdded, answerAt, recordsAt, bookEnd, bookAt, booksAt, endedAs, figures}
+use Rattle.tallies.specs.Tallied.{howMany}
+use Rattle.tallies.specs.InCode.{AddedAs, TakenBack, answerOver}
+use Rattle.figures.specs.InCode.{countOf, recordOver, behindRecord, recordsOver, bookOver, after}
+use Rattle.tallies.proofs.Exactly.{whatever}
+use Rattle.tallies.proofs.Tallying.{Added, adds, once, tallied-added}
+use Rattle.tallies.proofs.Tallying.{WithAnswers}
 use Rattle.figures.proofs.RecordWays.{Extent, record-extent}
-use Rattle.figures.proofs.Taking.{there-and-back}
-use Rattle.figures.proofs.TallyWays.{adds-refused, adds-got, added-refusal, added-got}
+use Rattle.tallies.proofs.Taking.{there-and-back}
+use Rattle.tallies.proofs.TallyWays.{adds-refused, adds-got, added-refusal, added-got}
 use Rattle.figures.proofs.Repeated.{repeated, then-cong, EachCounts, all-count}
 
 -- what is refused with 60
@@ -79,19 +81,24 @@ module _ (bs : List ℕ) (version e : ℕ) where
 
     -- or read up to its symbols
     module _ {count end : ℕ} (told : got count end ≡ keeping countOf (recordAt bs version e p)) where
-      extent : (a : _) × (recordAt bs version e p ≡ got a end) × (count ≡ a .count) × Extent bs version e p a end
+      extent : (a : _) × (recordAt bs version e p ≡ got a end) × Extent bs version e p a end
       extent =
           let kept = kept-got countOf (recordAt bs version e p) told in
-          (kept .0, kept .1, kept .2, good-got (record-extent bs version e p) (kept .1))
+          (kept .0, kept .1, good-got (record-extent bs version e p) (kept .1))
 
-      pub symbols-within : (p + 2 * version + 2 + 2 * count ≤ end) × (end ≤ e)
-      symbols-within =
-          let is = extent .3 in
-          (omega (arith, is .room, is .stand, extent .2), is .within)
+      -- n of them
+      module _ (n : ℕ) (n-is : n ≡ bigEndian bs (p + 2 * version)) where
+        as-many : n ≡ extent .0 .count
+        as-many = n-is ∙ sym (extent .2 .count)
 
-      pub by-symbols : answerAt bs version e row p ≡ symbolsAdded bs row count (p + 2 * version + 2) p end
-      unfolding answerAt
-      by-symbols = then-got _ (extent .1) ∙ ap₂ (λ (n from : ℕ). symbolsAdded bs row n from p end) (sym (extent .2)) (extent .3 .stand)
+        pub symbols-within : (p + 2 * version + 2 + 2 * n ≤ end) × (end ≤ e)
+        symbols-within =
+            let is = extent .2 in
+            (omega (arith, is .room, is .stand, as-many), is .within)
+
+        pub by-symbols : answerAt bs version e row p ≡ symbolsAdded bs row n (p + 2 * version + 2) p end
+        unfolding answerAt
+        by-symbols = then-got _ (extent .1) ∙ ap₂ (λ (k from : ℕ). symbolsAdded bs row k from p end) (sym as-many) (extent .2 .stand)
 
   -- what it counts
   pub answer-counts : EachCounts (behindRecord bs) (recordOver bs version) e (answerAt bs version e)

@@ -12,10 +12,12 @@ use lib.Seq.{getD-drop, getD-take, drop-drop, drop-cons, length-take-le, drop-ap
 use Rattle.reading.specs.Reading.{Reading, got, _then_}
 use Rattle.reading.specs.Bytes.{twoBytes}
 use Rattle.figures.specs.Figures.{bookEnd, bookAt, booksAt}
-use Rattle.figures.specs.Counts.{howMany, answersOf, allAnswers, laid, booksFrom, booksIn, FindsLaid}
-use Rattle.figures.proofs.Exactly.{Exactly, read, next, unless, either, so}
-use Rattle.figures.proofs.Tallying.{Sum, added-none, room-none, added-more, room-first, room-others, room-all, once}
-use Rattle.figures.proofs.Counting.{WithAnswers, RoomFor, Readable, At, book-added}
+use Rattle.tallies.specs.Tallied.{howMany}
+use Rattle.figures.specs.Counts.{answersOf, allAnswers, laid, booksFrom, booksIn, FindsLaid}
+use Rattle.tallies.proofs.Exactly.{Exactly, read, next, unless, either, so}
+use Rattle.tallies.proofs.Tallying.{Sum, added-none, room-none, added-more, room-first, room-others, room-all, once}
+use Rattle.tallies.proofs.Tallying.{WithAnswers}
+use Rattle.figures.proofs.Counting.{RoomFor, Readable, At, book-added}
 
 -- each of them is in the layout
 pub data AllReadable : List (List ℕ) → Type 0 where

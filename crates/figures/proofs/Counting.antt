@@ -10,15 +10,13 @@ use lib.ListN.{length, getD}
 use Rattle.reading.specs.Reading.{Reading, got}
 use Rattle.figures.specs.AnswerBook.{rising}
 use Rattle.figures.specs.Figures.{bookEnd, symbolsAdded, answerAt, recordsAt, bookAt}
-use Rattle.figures.specs.Counts.{howMany, symbolsAt, answersAt, answersOf}
-use Rattle.figures.proofs.Exactly.{Exactly, read, next, unless, either, so}
-use Rattle.figures.proofs.Tallying.{Added, Room, Sum, added-none, room-none, added-more, room-first, room-others, room-all, adds, once, tallied-added}
+use Rattle.tallies.specs.Tallied.{howMany, symbolsAt}
+use Rattle.figures.specs.Counts.{answersAt, answersOf}
+use Rattle.tallies.proofs.Exactly.{Exactly, read, next, unless, either, so}
+use Rattle.tallies.proofs.Tallying.{Added, WithAnswers, Room, Sum, added-none, room-none, added-more, room-first, room-others, room-all, adds, once, tallied-added}
 use Rattle.figures.proofs.Laying.{endAt, symbolsFrom, symbolCount, decisionsFrom, Fits, answers-none, answers-more, LiesFrom, record-alone}
 
--- the row with these answers counted in its totals, and one that has room for them
-abbrev pub WithAnswers : List ℕ → List (List ℕ) → List ℕ → Type 0
-WithAnswers row answers row′ = Added row (λ f. howMany f answers) row′
-
+-- a row that has room for these answers
 abbrev pub RoomFor : List ℕ → List (List ℕ) → Type 0
 RoomFor row answers = Room row (λ f. howMany f answers)
 

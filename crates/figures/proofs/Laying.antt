@@ -11,8 +11,9 @@ use Rattle.limits.specs.Sizes.{mostChoices}
 use Rattle.reading.specs.Reading.{Reading, got}
 use Rattle.reading.specs.Bytes.{bigEndian}
 use Rattle.figures.specs.AnswerBook.{Symbols, rising, recordAt, wholeAt}
-use Rattle.figures.specs.Counts.{symbolsAt, answersAt}
-use Rattle.figures.proofs.Exactly.{Exactly, read, refused, next, unless, so}
+use Rattle.tallies.specs.Tallied.{symbolsAt}
+use Rattle.figures.specs.Counts.{answersAt}
+use Rattle.tallies.proofs.Exactly.{Exactly, read, refused, next, unless, so}
 
 -- ---- a record that can be read
 

@@ -1,12 +1,9 @@
 pub mod RecordWays
-pub mod Exactly
-pub mod Tallying
 pub mod Laying
 pub mod Counting
 pub mod Books
 pub mod Order
 pub mod Runs
-pub mod Taking
-pub mod TallyWays
+pub mod Moved
 pub mod Repeated
 pub mod BookWays

@@ -9,9 +9,11 @@ use lib.ListN.{length, getD}
 use lib.Seq.{ext-getD}
 use Rattle.reading.specs.Reading.{Reading}
 use Rattle.figures.specs.Figures.{booksAt, Outcome, endedAs, figures}
-use Rattle.figures.specs.Counts.{howMany, allAnswers, laid, booksIn, Counted, AnyOrder, FoundAreLaid, AnyOrderFound}
-use Rattle.figures.proofs.Exactly.{read, refused}
-use Rattle.figures.proofs.Counting.{WithAnswers, Readable}
+use Rattle.tallies.specs.Tallied.{howMany}
+use Rattle.figures.specs.Counts.{allAnswers, laid, booksIn, Counted, AnyOrder, FoundAreLaid, AnyOrderFound}
+use Rattle.tallies.proofs.Exactly.{read, refused}
+use Rattle.tallies.proofs.Tallying.{WithAnswers}
+use Rattle.figures.proofs.Counting.{Readable}
 use Rattle.figures.proofs.Books.{AllReadable, none, also, howMany-both, Countable, Books, books-added, finds-laid, books-found}
 
 -- ---- what is handed back

@@ -10,13 +10,14 @@ use Rattle.reading.specs.Reading.{Reading, got, refusal, _then_}
 use Rattle.reading.specs.declared.Reading.the-variants.{Got, Refusal}
 use Rattle.reading.proofs.Good.{Good, good, good-got, each, then-good}
 use Rattle.reading.proofs.Keeping.{then-got, then-refusal}
-use Rattle.figures.specs.Counts.{howMany}
-use Rattle.figures.specs.InCode.{AddedAs, TakenBack, over}
-use Rattle.figures.proofs.Tallying.{Sum, added-none, added-more}
-use Rattle.figures.proofs.Counting.{WithAnswers}
+use Rattle.tallies.specs.Tallied.{howMany}
+use Rattle.tallies.specs.InCode.{AddedAs, TakenBack}
+use Rattle.figures.specs.InCode.{over}
+use Rattle.tallies.proofs.Tallying.{Sum, added-none, added-more}
+use Rattle.tallies.proofs.Tallying.{WithAnswers}
 use Rattle.figures.proofs.Books.{howMany-both}
-use Rattle.figures.proofs.Taking.{there-and-back}
-use Rattle.figures.proofs.TallyWays.{adds-refused, adds-got, added-refusal, added-got}
+use Rattle.tallies.proofs.Taking.{there-and-back}
+use Rattle.tallies.proofs.TallyWays.{adds-refused, adds-got, added-refusal, added-got}
 
 -- what follows may be said in other words
 pub then-cong : {A B : Type 0} {f g : A → ℕ → Reading B} (r : Reading A) → ((a : A) (q : ℕ) → f a q ≡ g a q) → _then_ r f ≡ _then_ r g

@@ -13,7 +13,8 @@ use Rattle.limits.specs.Decisions.{Decisions}
 use Rattle.reading.specs.Bytes.{bigEndian, twoBytes}
 use Rattle.machine.specs.Answers.{Answer, decisionNumbers, twoBytesEach, recordBytes, recordsBytes, answerBytes}
 use Rattle.figures.specs.AnswerBook.{rising}
-use Rattle.figures.specs.Counts.{symbolsAt, answersAt, answersOf, allAnswers, laid, Writable, ReadsRuns, AcceptsRuns}
+use Rattle.tallies.specs.Tallied.{symbolsAt}
+use Rattle.figures.specs.Counts.{answersAt, answersOf, allAnswers, laid, Writable, ReadsRuns, AcceptsRuns}
 use Rattle.figures.proofs.Counting.{Well, ended, another, Readable}
 use Rattle.figures.proofs.Books.{none, also, finds-laid}
 use Rattle.figures.proofs.Order.{finishes}

@@ -9,22 +9,12 @@ use lib.Seq.{slice}
 use Rattle.limits.specs.Sizes.{mostChoices}
 use Rattle.reading.specs.Reading.{got, refusal}
 use Rattle.reading.specs.Bytes.{bigEndian, twoBytes}
-use Rattle.book.specs.TreeAt.{isIn}
+use Rattle.tallies.specs.Tallied.{mostTotal, howMany, symbolsAt}
 use Rattle.machine.specs.Answers.{Answer, answerBytes}
 use Rattle.figures.specs.AnswerBook.{wholeAt}
-use Rattle.figures.specs.Figures.{mostTotal, bookEnd, figures}
-
--- in how many of these answers, each given by its symbols, symbol f stands
-unfoldable pub howMany : ℕ → List (List ℕ) → ℕ
-howMany f [] = 0
-howMany f (symbols ∷ more) = elim (isIn f symbols) [ true ↦ suc (howMany f more) | false ↦ howMany f more ]
+use Rattle.figures.specs.Figures.{bookEnd, figures}
 
 module _ (bs : List ℕ) where
-  -- k symbols from p on
-  unfoldable pub symbolsAt : ℕ → ℕ → List ℕ
-  symbolsAt zero p = []
-  symbolsAt (suc k) p = bigEndian bs p ∷ symbolsAt k (p + 2)
-
   -- the answers of a book from p to its end e, each by its symbols, as far as its records can be read
   unfoldable pub answersAt : ℕ → ℕ → ℕ → ℕ → List (List ℕ)
   answersAt zero version e p = []
@@ -32,7 +22,7 @@ module _ (bs : List ℕ) where
     | false ↦ []
     | true ↦ elim (wholeAt bs version e p) [
       | refusal c q ↦ []
-      | got answer end ↦ symbolsAt (answer .count) (answer .from) ∷ answersAt bound version e end
+      | got answer end ↦ symbolsAt bs (answer .count) (answer .from) ∷ answersAt bound version e end
     ]
   ]
 

@@ -1,38 +1,19 @@
 -- The index figures: "for each symbol, in how many answers it stands, over many answer books laid one behind another in a lent buffer".
 use mathlib.Core.Bool.{true, false, not}
-use mathlib.Core.List.{List, [], _∷_}
+use mathlib.Core.List.{List, []}
 use Prim.Native.Nat.{ℕ, zero, suc, _+_, _*_}
-use lib.Dec.{leb, ltb, eqb}
-use lib.ListN.{length, getD, set}
+use lib.Dec.{ltb, eqb}
+use lib.ListN.{length, getD}
 use Rattle.reading.specs.Reading.{Reading, got, refusal, _then_, refuse_at_if_else_}
 use Rattle.reading.specs.Bytes.{bigEndian}
-use Rattle.book.specs.TreeAt.{isIn}
+use Rattle.tallies.specs.Tallied.{tallied}
 use Rattle.figures.specs.AnswerBook.{recordAt, decided}
 
--- "a total past 32 bits"
-unfoldable pub mostTotal : ℕ
-mostTotal = 4294967295
-
 module _ (bs : List ℕ) where
-  -- an answer's symbols, k of them from p on, added to the totals of the row; one that is in `seen`, those before it in this answer, counts no more.
-  -- "61 a symbol past the row, 62 a total past 32 bits"
-  unfoldable pub tallied : List ℕ → List ℕ → ℕ → ℕ → Reading (List ℕ)
-  tallied row seen zero p = got row p
-  tallied row seen (suc k) p =
-      let f = bigEndian bs p in
-      let total = getD row f 0 in
-      elim (isIn f seen) [
-        | true ↦ tallied row seen k (p + 2)
-        | false ↦
-            refuse 61 at p if leb (length row) f else λ _.
-            refuse 62 at p if leb mostTotal total else λ _.
-            tallied (set row f (suc total)) (f ∷ seen) k (p + 2)
-      ]
-
   -- the symbols of a record at p, k of them from `from` on, and then its decisions; it ends at `end`
   unfoldable pub symbolsAdded : List ℕ → ℕ → ℕ → ℕ → ℕ → Reading (List ℕ)
   symbolsAdded row k from p end =
-      tallied row [] k from then λ row′ q.
+      tallied bs row [] k from then λ row′ q.
       refuse 60 at p if not (decided bs end q) else λ _.
       got row′ end
 

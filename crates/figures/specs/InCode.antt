@@ -11,40 +11,18 @@ use Rattle.reading.specs.Answer.{readingOf, keeping, nothing}
 use Rattle.reading.specs.declared.Reading.{Reading as Answered}
 use Rattle.figures.specs.AnswerBook.{Symbols}
 use Rattle.figures.specs.Figures.{bookEnd, Outcome}
-use Rattle.figures.specs.Counts.{howMany, symbolsAt}
+use Rattle.tallies.specs.InCode.{answerOver}
 use Rattle.figures.specs.declared.Figured.{Figured}
 
 -- of a record the code keeps how many symbols it has
 abbrev pub countOf : Symbols → ℕ
 countOf x = x .count
 
--- the row after it: what is refused leaves it as it was
-unfoldable pub leftOf : List ℕ → Reading (List ℕ) → List ℕ
-leftOf row (got row′ p) = row′
-leftOf row (refusal c p) = row
-
--- what was to be added to a row, what the code answers, and the row that it leaves
-abbrev pub AddedAs : Reading (List ℕ) → Answered → List ℕ → List ℕ → Type 0
-AddedAs t r row row′ = (readingOf r ≡ keeping nothing t) × (row′ ≡ leftOf row t)
-
 -- what is handed back, and the row after it
 abbrev pub after : Figured → List ℕ → Outcome
 after r row = record { number = r .number; place = r .place; row = row }
 
--- ---- what was added is taken back
-
--- one less at f
-abbrev pub Lessened : ℕ → List ℕ → List ℕ → Type 0
-Lessened f row row′ = row′ ≡ set row f (getD row f 0 - 1)
-
--- a row from whose total at each f so many were taken
-pub record Less (row : List ℕ) (many : ℕ → ℕ) (row′ : List ℕ) : Type 0 where
-  pub long : length row′ ≡ length row
-  pub total : (f : ℕ) → f < length row → getD row′ f 0 ≡ getD row f 0 - many f
-
--- these answers were
-abbrev pub TakenBack : List ℕ → List (List ℕ) → List ℕ → Type 0
-TakenBack row answers row′ = Less row (λ f. howMany f answers) row′
+-- ---- what is taken back
 
 -- the answers of what stands from p to e, one thing behind another: where it ends, and its answers; the first number bounds how many there can be
 unfoldable pub over : (ℕ → ℕ) → (ℕ → List (List ℕ)) → ℕ → ℕ → ℕ → List (List ℕ)
@@ -52,13 +30,9 @@ over behind answers zero e p = []
 over behind answers (suc bound) e p = elim (ltb p e) [ false ↦ [] | true ↦ answers p ++ over behind answers bound e (behind p) ]
 
 module _ (bs : List ℕ) where
-  -- an answer's symbols
-  abbrev pub answerOver : ℕ → ℕ → List (List ℕ)
-  answerOver count from = symbolsAt bs count from ∷ []
-
   -- a record at p, and where it ends, by its symbol count and its length
   abbrev pub recordOver : ℕ → ℕ → List (List ℕ)
-  recordOver version p = answerOver (bigEndian bs (p + 2 * version)) (p + 2 * version + 2)
+  recordOver version p = answerOver bs (bigEndian bs (p + 2 * version)) (p + 2 * version + 2)
 
   abbrev pub behindRecord : ℕ → ℕ
   behindRecord p = p + 2 + bigEndian bs p

@@ -2,17 +2,18 @@
 ghost use Prim.Native.Nat.{_+_, _*_, _<_, _≤_};
 ghost use lib.ListN.{length};
 ghost use Rattle.figures.specs.Figures.{symbolsAdded, answerAt, recordsAt, bookAt, booksAt};
-ghost use Rattle.figures.specs.InCode.{AddedAs};
+ghost use Rattle.tallies.specs.InCode.{AddedAs};
 use super::back::books_back;
 use super::back::records_back;
 use super::record::read_record;
 use super::record::refused;
 use super::record::rising;
-use super::tally::take_back;
-use super::tally::tally;
 use reading::Reading;
 use reading::byte;
 use reading::number;
+use reading::part_of;
+use tallies::take_back;
+use tallies::tally;
 
 // The symbols of a record at p, `count` of them, then its decisions; it ends at `end`.
 fn add_symbols(
@@ -23,12 +24,16 @@ fn add_symbols(
     end: usize,
     totals: &mut [u32],
 ) -> Reading
-    requires { ⌜ (from + 2 * count ≤ end) × (end ≤ length (now books)) ⌝ }
+    requires { ⌜ (from + 2 * count ≤ end) × (end ≤ length (now books)) × (count < 65536) ⌝ }
     ensures { λ r. ⌜ AddedAs (symbolsAdded (now (books .entry)) (now (totals .entry)) count from p end) r
         (now (totals .entry)) (now (totals .exit)) ⌝ }
 {
-    match tally(books, count, from, totals) {
-        Reading::Refusal { number, place } => Reading::Refusal { number, place },
+    let symbols = part_of(books, from, books.len());
+    match tally(symbols, count as u16, totals) {
+        Reading::Refusal { number, place } => Reading::Refusal {
+            number,
+            place: from + place,
+        },
         Reading::Got { value: _, next: _ } => {
             let decisions = from + 2 * count;
             if rising(books, (end - decisions) / 2, decisions) {
@@ -37,7 +42,7 @@ fn add_symbols(
                     next: end,
                 }
             } else {
-                take_back(books, count, from, totals);
+                take_back(symbols, count as u16, totals);
                 refused(p)
             }
         }
@@ -52,9 +57,12 @@ fn add_record(books: &[u8], version: usize, e: usize, p: usize, totals: &mut [u3
     match read_record(books, version, e, p) {
         Reading::Refusal { number, place } => Reading::Refusal { number, place },
         Reading::Got {
-            value: count,
+            value: _,
             next: end,
-        } => { add_symbols(books, count, p + 2 * version + 2, p, end, totals) }
+        } => {
+            let at = p + 2 * version;
+            add_symbols(books, number(books, at), at + 2, p, end, totals)
+        }
     }
 }
 

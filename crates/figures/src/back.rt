@@ -4,10 +4,12 @@ ghost use mathlib.Core.Path.{_≡_};
 ghost use Prim.Native.Nat.{_<_, _≤_};
 ghost use lib.ListN.{length};
 ghost use Rattle.figures.specs.Figures.{bookEnd};
-ghost use Rattle.figures.specs.InCode.{TakenBack, behindRecord, recordOver, recordsOver, bookOver, booksOver};
-use super::tally::take_back;
+ghost use Rattle.tallies.specs.InCode.{TakenBack};
+ghost use Rattle.figures.specs.InCode.{behindRecord, recordOver, recordsOver, bookOver, booksOver};
 use reading::byte;
 use reading::number;
+use reading::part_of;
+use tallies::take_back;
 
 // The record at p: the place behind it.
 fn record_back(books: &[u8], version: usize, p: usize, totals: &mut [u32]) -> usize
@@ -16,7 +18,8 @@ fn record_back(books: &[u8], version: usize, p: usize, totals: &mut [u32]) -> us
         × TakenBack (now (totals .entry)) (recordOver (now (books .entry)) version p) (now (totals .exit)) ⌝ }
 {
     let at = p + 2 * version;
-    take_back(books, number(books, at), at + 2, totals);
+    let symbols = part_of(books, at + 2, books.len());
+    take_back(symbols, number(books, at) as u16, totals);
     p + 2 + number(books, p)
 }
 

@@ -6,7 +6,6 @@ ghost use Rattle.figures.specs.InCode.{after};
 mod adding;
 mod back;
 mod record;
-mod tally;
 
 use adding::add_books;
 use reading::Reading;

@@ -2,7 +2,7 @@
 // room, and what is told when it is saved, with each number of the row that was written. tools/listing_cases.py makes the table and says what each row gives.
 ghost use Prim.Native.Nat.{_<_, _≤_};
 ghost use lib.ListN.{length};
-use listings::save_listing;
+use circles::save_listing;
 use listings::write_listing;
 use reading::number;
 use reading::part_of;

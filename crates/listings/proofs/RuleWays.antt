@@ -10,8 +10,8 @@ use lib.Seq.{drop-cons}
 use Rattle.reading.specs.Bytes.{twoBytes}
 use Rattle.tagged.specs.Terms.{nested, firstOf, secondOf}
 use Rattle.tagged.specs.Laid.{exprLaid, rowLaid, treeLaid, lengthFirst}
-use Rattle.listings.specs.Places.{bytesOf}
-use Rattle.listings.specs.TermRows.{mostTerms}
+use Rattle.terms.specs.Places.{bytesOf}
+use Rattle.terms.specs.TermRows.{mostTerms}
 use Rattle.listings.specs.Putting.{Put, termLaid, ruleOf, nestLaid, nextLaid, sizeOf, ruleLaid}
 use Rattle.listings.proofs.PutWays.{put-then}
 

@@ -18,10 +18,10 @@ use Rattle.tagged.specs.Listing.{Broader, broaderIn}
 use Rattle.tagged.specs.Terms.{term, operation, symbolsFor, rulesBefore, exemptBefore, firstRules, secondRules, treesFor, rulesFor}
 use Rattle.tagged.specs.Laid.{symbolLaid, symbolsLaid, treeLaid, lengthFirst, treesLaid, laid}
 use Rattle.tagged.specs.Write.{passes, someOver, written, bookFrom, refusing}
-use Rattle.listings.specs.Places.{bytesOf}
-use Rattle.listings.specs.TermRows.{broaderRows, HoldTerms, TermsAs, Fitting}
+use Rattle.terms.specs.Places.{bytesOf}
+use Rattle.terms.specs.TermRows.{broaderRows, HoldTerms, TermsAs, Fitting}
 use Rattle.listings.specs.Putting.{Put, HoldRow, HoldRows, kindLaid, kindsLaid, frontLaid, ruleOf, ruleLaid, rulesLaid, partLaid}
-use Rattle.listings.specs.declared.terms.Terms.{Terms}
+use Rattle.terms.specs.declared.terms.Terms.{Terms}
 use Rattle.listings.proofs.PutWays.{put-then, put-whole, kinds-long}
 use Rattle.tagged.proofs.Refused.{numbered, number-is}
 

@@ -13,7 +13,7 @@ use Rattle.tagged.specs.Listing.{Broader}
 use Rattle.tagged.specs.Terms.{nested, firstOf, secondOf, symbolsFor, rulesFor}
 use Rattle.tagged.specs.Laid.{exprLaid, treeLaid, symbolsLaid, lengthFirst, laid}
 use Rattle.tagged.specs.Write.{Outcome}
-use Rattle.listings.specs.TermRows.{mostHeadings, mostTerms, broaderRows, HoldTerms}
+use Rattle.terms.specs.TermRows.{mostHeadings, mostTerms, broaderRows, HoldTerms}
 use Rattle.listings.specs.declared.write.Written.{Written}
 
 -- ---- putting

@@ -6,13 +6,13 @@ ghost use lib.ListN.{length, drop, set};
 ghost use Rattle.limits.specs.Sizes.{mostBookBytes};
 ghost use Rattle.reading.specs.Bytes.{twoBytes};
 ghost use Rattle.tagged.specs.Write.{bookFrom};
-ghost use Rattle.listings.specs.Places.{bytesOf};
-ghost use Rattle.listings.specs.TermRows.{broaderRows, mostHeadings, mostTerms};
+ghost use Rattle.terms.specs.Places.{bytesOf};
+ghost use Rattle.terms.specs.TermRows.{broaderRows, mostHeadings, mostTerms};
 ghost use Rattle.listings.specs.Putting.{Fits, Put, HoldRow, HoldRows, outcomeOf};
 ghost use Rattle.listings.specs.Putting.{termLaid, kindLaid, kindsLaid, frontLaid, sizeOf, nextLaid, nestLaid, ruleLaid, rulesLaid, partOf, bookOf};
-use super::terms::ROWS;
-use super::terms::TERMS;
-use super::terms::terms_of;
+use terms::ROWS;
+use terms::TERMS;
+use terms::terms_of;
 
 // What is handed back: 0 or the number of the refusal, the line concerned, and how many bytes were written.
 pub struct Written {

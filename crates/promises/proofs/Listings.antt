@@ -33,15 +33,15 @@ use Rattle.tagged.specs.Write as Write
 use Rattle.tagged.specs.Saved.{answered, judged, savedAs}
 use Rattle.tagged.specs.Saved as Saved
 use Rattle.listings.specs.Putting.{outcomeOf as handedOn}
-use Rattle.listings.specs.Saving.{outcomeOf as toldOf}
+use Rattle.circles.specs.Saving.{outcomeOf as toldOf}
 use Rattle.tagged.proofs.Refused.{numbered, number-is}
 use Rattle.tagged.proofs.FirstCircle.{told}
 use Rattle.listings.proofs.write_listing as writing
 use Rattle.listings.proofs.write_listing.Met as written-so
 use Rattle.listings.proofs.write_listing.Symbol as write-symbol
-use Rattle.listings.proofs.save_listing as saving
-use Rattle.listings.proofs.save_listing.Met as saved-so
-use Rattle.listings.proofs.save_listing.Symbol as save-symbol
+use Rattle.circles.proofs.save_listing as saving
+use Rattle.circles.proofs.save_listing.Met as saved-so
+use Rattle.circles.proofs.save_listing.Symbol as save-symbol
 use Rattle.above.specs.Promised.{asking}
 use Rattle.above.proofs.Promised.{promised}
 use Rattle.above.proofs.TooLarge.{told-43}

@@ -22,16 +22,17 @@ use Rattle.symbols.proofs.table.is_operation as is-operation
 use Rattle.symbols.proofs.table.sort_of as sort-of
 use Rattle.symbols.proofs.table.arguments_of as arguments-of
 use Rattle.symbols.proofs.table.arity_of as arity-of
-use Rattle.symbols.proofs.part.read_symbol_part as read-symbol-part
-use Rattle.symbols.proofs.part.symbols_read as symbols-read
+use Rattle.symbol_part.proofs.read_symbol_part as read-symbol-part
+use Rattle.symbol_part.proofs.symbols_read as symbols-read
 use Rattle.expressions.proofs.read_whole as read-whole
 use Rattle.book.proofs.read_book as read-book
-use Rattle.book.proofs.read_question as read-question
+use Rattle.question.proofs.read_question as read-question
 use Rattle.book.proofs.rows_read as rows-read
 use Rattle.writer.proofs.write_book as write-book
 use Rattle.converter.proofs.convert_book as convert-book
+use Rattle.terms.proofs.terms_of as terms-of
 use Rattle.listings.proofs.write_listing as write-listing
-use Rattle.listings.proofs.save_listing as save-listing
+use Rattle.circles.proofs.save_listing as save-listing
 use Rattle.nodes.proofs.Row.apply as row-apply
 use Rattle.nodes.proofs.Row.choice as row-choice
 use Rattle.nodes.proofs.Row.fail as row-fail
@@ -43,13 +44,15 @@ use Rattle.nodes.proofs.arrow_at as arrow-at
 use Rattle.nodes.proofs.follow
 use Rattle.nodes.proofs.put
 use Rattle.nodes.proofs.put_forward as put-forward
-use Rattle.nodes.proofs.pull_up as pull-up
+use Rattle.pulls.proofs.pull_up as pull-up
+use Rattle.tallies.proofs.tally
+use Rattle.tallies.proofs.take_back as take-back
 use Rattle.figures.proofs.add_figures as add-figures
 use Rattle.run.proofs.run
 use Rattle.run.proofs.run_owned as run-owned
 use Rattle.promises.proofs.Contracts.{leftBy}
 use Rattle.promises.proofs.OneOutcome.{OneOutcome, OneResult, by-claim, one-value, one-bounded, one-set, one-row, one-reading}
-use Rattle.promises.proofs.OneOutcome.{one-symbol-part, one-index, one-written, one-converted, one-listed, one-saved, one-figured, one-run, one-owned}
+use Rattle.promises.proofs.OneOutcome.{one-symbol-part, one-index, one-written, one-converted, one-listed, one-saved, one-added, one-less, one-figured, one-run, one-owned}
 
 -- crate `limits`
 pub all-open-one : OneResult all-open.ended (λ M. all-open.clauses)
@@ -111,6 +114,7 @@ arguments-of-one = by-claim arguments-of.ended (λ κs a z z′ e e′. one-boun
 pub arity-of-one : OneResult arity-of.ended (λ M. arity-of.clauses)
 arity-of-one = by-claim arity-of.ended (λ κs a z z′ e e′. one-bounded)
 
+-- crate `symbol_part`
 pub read-symbol-part-one : OneResult read-symbol-part.ended (λ M. read-symbol-part.clauses)
 read-symbol-part-one = by-claim read-symbol-part.ended (λ κs a z z′ e e′. one-symbol-part z z′)
 
@@ -125,11 +129,12 @@ read-whole-one = by-claim read-whole.ended (λ κs a z z′ e e′. one-reading 
 pub read-book-one : OneResult read-book.ended (λ M. read-book.clauses)
 read-book-one = by-claim read-book.ended (λ κs a z z′ e e′. one-index z z′)
 
-pub read-question-one : OneResult read-question.ended (λ M. read-question.clauses)
-read-question-one = by-claim read-question.ended (λ κs a z z′ e e′. one-reading z z′)
-
 pub rows-read-one : OneResult rows-read.ended (λ M. rows-read.clauses)
 rows-read-one = by-claim rows-read.ended (λ κs a z z′ e e′. one-bounded)
+
+-- crate `question`
+pub read-question-one : OneResult read-question.ended (λ M. read-question.clauses)
+read-question-one = by-claim read-question.ended (λ κs a z z′ e e′. one-reading z z′)
 
 -- crate `writer`
 pub write-book-one : OneOutcome write-book.ended (λ κs z z′ e e′. (z ≡ z′) × (now (e .1 .1 .0) ≡ now (e′ .1 .1 .0))) (λ M. write-book.clauses)
@@ -139,10 +144,15 @@ write-book-one = by-claim write-book.ended (λ κs a z z′ e e′. one-written 
 pub convert-book-one : OneOutcome convert-book.ended (λ κs z z′ e e′. (z ≡ z′) × (now (e .1 .0) ≡ now (e′ .1 .0))) (λ M. convert-book.clauses)
 convert-book-one = by-claim convert-book.ended (λ κs a z z′ e e′. one-converted z z′ (now (e .1 .0)) (now (e′ .1 .0)))
 
--- crate `tagged`
+-- crate `terms`
+pub terms-of-one : OneResult terms-of.ended (λ M. terms-of.clauses)
+terms-of-one = by-claim terms-of.ended (λ κs a z z′ e e′. one-bounded)
+
+-- crate `listings`
 pub write-listing-one : OneOutcome write-listing.ended (λ κs z z′ e e′. (z ≡ z′) × (now (e .1 .0) ≡ now (e′ .1 .0))) (λ M. write-listing.clauses)
 write-listing-one = by-claim write-listing.ended (λ κs a z z′ e e′. one-listed z z′ (now (e .1 .0)) (now (e′ .1 .0)))
 
+-- crate `circles`
 pub save-listing-one : OneOutcome save-listing.ended (λ κs z z′ e e′. (z ≡ z′) × (now (e .1 .0) ≡ now (e′ .1 .0))) (λ M. save-listing.clauses)
 save-listing-one = by-claim save-listing.ended (λ κs a z z′ e e′. one-saved z z′ (now (e .1 .0)) (now (e′ .1 .0)))
 
@@ -180,8 +190,16 @@ put-one = by-claim put.ended (λ κs a z z′ e e′. one-value)
 pub put-forward-one : OneOutcome put-forward.ended (λ κs z z′ e e′. now (e .0) ≡ now (e′ .0)) (λ M. put-forward.clauses)
 put-forward-one = by-claim put-forward.ended (λ κs a z z′ e e′. one-value)
 
+-- crate `pulls`
 pub pull-up-one : OneOutcome pull-up.ended (λ κs z z′ e e′. (z ≡ z′) × (now (e .0) ≡ now (e′ .0))) (λ M. pull-up.clauses)
 pull-up-one = by-claim pull-up.ended (λ κs a z z′ e e′ one other. (one-value (one .0) (other .0), one-value (one .1) (other .1)))
+
+-- crate `tallies`
+pub tally-one : OneOutcome tally.ended (λ κs z z′ e e′. (z ≡ z′) × (now (e .1 .1 .0) ≡ now (e′ .1 .1 .0))) (λ M. tally.clauses)
+tally-one = by-claim tally.ended (λ κs a z z′ e e′. one-added z z′ (now (e .1 .1 .0)) (now (e′ .1 .1 .0)))
+
+pub take-back-one : OneOutcome take-back.ended (λ κs z z′ e e′. now (e .1 .1 .0) ≡ now (e′ .1 .1 .0)) (λ M. take-back.clauses)
+take-back-one = by-claim take-back.ended (λ κs a z z′ e e′. one-less _ (now (e .1 .1 .0)) (now (e′ .1 .1 .0)))
 
 -- crate `figures`
 pub add-figures-one : OneOutcome add-figures.ended (λ κs z z′ e e′. (z ≡ z′) × (now (e .1 .0) ≡ now (e′ .1 .0))) (λ M. add-figures.clauses)

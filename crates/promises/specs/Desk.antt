@@ -7,7 +7,8 @@ use Rattle.writer.specs.Rows.{Rows}
 use Rattle.writer.specs.Exact.{Bytes, Numbers, BookOf, Meant}
 use Rattle.writer.specs.Write as Write
 use Rattle.figures.specs.Figures as Figures
-use Rattle.figures.specs.Counts.{howMany, allAnswers, booksIn}
+use Rattle.tallies.specs.Tallied.{howMany}
+use Rattle.figures.specs.Counts.{allAnswers, booksIn}
 
 -- of the book of these rows, written into this room
 pub record MakesBook (rows : Rows) (room : List ℕ) (o : Write.Outcome) : Type 0 where

@@ -1,3 +1,2 @@
-// The symbol part of a book: read once, and then looked up by the places of its symbols.
-pub mod part;
+// The symbols of a book, looked up by their places. The symbol part is read in crate `symbol_part`.
 pub mod table;

@@ -18,7 +18,7 @@ use book::read_book;
 use book::rows_read;
 use limits::Limits;
 use reading::Reading;
-use symbols::part::read_symbol_part;
+use symbol_part::read_symbol_part;
 use symbols::table::arity_of;
 
 // A book that was made: 0, its size and its bytes; or the number of the refusal and the row at fault.

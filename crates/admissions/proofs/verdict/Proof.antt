@@ -9,7 +9,7 @@ use Rattle.admissions.proofs.verdict.Tie as tie
 use Rattle.admissions.proofs.verdict.Reads as reads
 use Rattle.admissions.proofs.verdict.Lts as lts
 use Rattle.book.proofs.read_book.Reads as read-book-reads
-use Rattle.book.proofs.read_question.Reads as read-question-reads
+use Rattle.question.proofs.read_question.Reads as read-question-reads
 
 read-book-requires : tie.Need-read-book-requires
 read-book-requires c κs = search needs

@@ -16,7 +16,7 @@ use Rattle.book.proofs.read_book.Reads as reads
 use Rattle.book.proofs.read_book.Lts as lts
 use Rattle.book.proofs.refused.Reads as refused-reads
 use Rattle.book.proofs.trees.read_tree_part.Reads as read-tree-part-reads
-use Rattle.symbols.proofs.part.read_symbol_part.Reads as read-symbol-part-reads
+use Rattle.symbol_part.proofs.read_symbol_part.Reads as read-symbol-part-reads
 
 -- what is known once the symbol part was read
 abbrev AfterSymbols : Type 0

@@ -11,10 +11,10 @@ use Rattle.figures.proofs.adding.add_record.Statement.{statement}
 use Rattle.figures.proofs.adding.add_record.Tie as tie
 
 -- what is known once a record was read
-known : (c : tie.After-count)
+known : (c : tie.After-end)
     → let a = c .before .before .before .before .before .args in
-    got (c .count .given .0 .0) (c .count .given .0 .1 .0) ≡ keeping countOf (recordAt (a .books .now) (a .version) (a .e) (a .p))
-known c = sym (ap readingOf (c .count .given .1)) ∙ c .before .before .read-record .ensures
+    got (c .end .given .0 .0) (c .end .given .0 .1 .0) ≡ keeping countOf (recordAt (a .books .now) (a .version) (a .e) (a .p))
+known c = sym (ap readingOf (c .end .given .1)) ∙ c .before .before .read-record .ensures
 
 read-record-requires : tie.Need-read-record-requires
 read-record-requires c κs = search needs
@@ -22,24 +22,28 @@ read-record-requires c κs = search needs
 enum-known-number : tie.Need-enum-known-number
 enum-known-number c = search needs
 
-enum-known-count : tie.Need-enum-known-count
-enum-known-count c = search needs
+enum-known-end : tie.Need-enum-known-end
+enum-known-end c = search needs
 
-mul-add-symbols : tie.Need-mul-add-symbols
-mul-add-symbols c = search needs
+mul-at : tie.Need-mul-at
+mul-at c = search needs
+
+add-at : tie.Need-add-at
+add-at c = search needs
+
+number-requires : tie.Need-number-requires
+number-requires c κs = search needs
 
 add-add-symbols : tie.Need-add-add-symbols
 add-add-symbols c = search needs
 
-add-add-symbols-2 : tie.Need-add-add-symbols-2
-add-add-symbols-2 c = search needs
-
 add-symbols-requires : tie.Need-add-symbols-requires
 add-symbols-requires c κs =
-    let count = c .before .before in
-    let a = count .before .before .before .before .before .args in
-    let is = symbols-within (a .books .now) (a .version) (a .e) (a .totals .now) (a .p) (known count) in
-    (is .0, omega (arith, is .1))
+    let many = c .before .number2 .ensures in
+    let read = c .before .before .before in
+    let a = read .before .before .before .before .before .args in
+    let is = symbols-within (a .books .now) (a .version) (a .e) (a .totals .now) (a .p) (known read) _ (many .0) in
+    (is .0, omega (arith, is .1), many .1)
 
 returns : tie.Need-returns
 returns c =
@@ -53,9 +57,10 @@ same-length c = search needs
 returns-2 : tie.Need-returns-2
 returns-2 c =
     let added = c .before .before in
-    let count = added .before .before .before in
-    let a = count .before .before .before .before .before .args in
-    rw (by-symbols (a .books .now) (a .version) (a .e) (a .totals .now) (a .p) (known count)) (added .add-symbols .ensures)
+    let many = added .before .before .number2 .ensures in
+    let read = added .before .before .before .before in
+    let a = read .before .before .before .before .before .args in
+    rw (by-symbols (a .books .now) (a .version) (a .e) (a .totals .now) (a .p) (known read) _ (many .0)) (added .add-symbols .ensures)
 
 pub add-record-spec : {M : Type 1} → statement M
 add-record-spec =
@@ -63,10 +68,11 @@ add-record-spec =
     (tie.spec
     read-record-requires
     enum-known-number
-    enum-known-count
-    mul-add-symbols
+    enum-known-end
+    mul-at
+    add-at
+    number-requires
     add-add-symbols
-    add-add-symbols-2
     add-symbols-requires
     returns
     same-length

@@ -1,6 +1,8 @@
 -- `record_back` meets its contract: the symbols that the record counts are taken off.
+use Prim.Native.Nat.{_+_, _*_}
 use native.Mathlib.Omega.{arith}
 use borrow.Author.Needs.{needs}
+use Rattle.figures.proofs.Moved.{moved-back}
 use Rattle.figures.proofs.back.record_back.Statement.{statement}
 use Rattle.figures.proofs.back.record_back.Tie as tie
 
@@ -10,11 +12,17 @@ mul-at c = search needs
 add-at : tie.Need-add-at
 add-at c = search needs
 
+add-part-of : tie.Need-add-part-of
+add-part-of c = search needs
+
+part-of-requires : tie.Need-part-of-requires
+part-of-requires c κs = search needs
+
 number-requires : tie.Need-number-requires
 number-requires c κs = search needs
 
-add-take-back : tie.Need-add-take-back
-add-take-back c = search needs
+cast-take-back : tie.Need-cast-take-back
+cast-take-back c = search needs
 
 take-back-requires : tie.Need-take-back-requires
 take-back-requires c κs = search needs
@@ -34,7 +42,10 @@ same-length c = c .before .before .before .take-back .ensures .long
 returns : tie.Need-returns
 returns c =
     let counted = c .before .before .before .before .before .number .ensures .0 in
-    (omega (arith, c .number2 .ensures .0), rw (← counted) (c .before .before .before .take-back .ensures))
+    let part = c .before .before .before .before .before .before .part-of in
+    let a = c .before .before .before .before .before .before .before .before .before .args in
+    let back = moved-back (a .books .now) (a .p + 2 * a .version + 2) (part .result .now) (part .ensures) _ (c .before .before .before .take-back .ensures) in
+    (omega (arith, c .number2 .ensures .0), rw (← counted) back)
 
 pub record-back-spec : {M : Type 1} → statement M
 record-back-spec =
@@ -42,8 +53,10 @@ record-back-spec =
     (tie.spec
     mul-at
     add-at
+    add-part-of
+    part-of-requires
     number-requires
-    add-take-back
+    cast-take-back
     take-back-requires
     add-result
     number-requires-2

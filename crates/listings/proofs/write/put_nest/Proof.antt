@@ -4,7 +4,7 @@ use Prim.Native.Nat.{_+_, _-_, _≤_, _<_}
 use native.Mathlib.Omega.{arith}
 use lib.ListN.{length, getD}
 use Rattle.listings.specs.Putting.{nextLaid, nestLaid}
-use Rattle.listings.specs.Places.{bytesOf}
+use Rattle.terms.specs.Places.{bytesOf}
 use Rattle.listings.proofs.PutWays.{Left, put-same, left-all, left-put, left-fits, left-same, left-last}
 use Rattle.listings.proofs.RuleWays.{nest-more, nest-one}
 use borrow.Author.Needs.{needs}

@@ -1,10 +1,10 @@
 -- `put_rules` meets its contract: the rules from heading x on are left to be put.
 use lib.ListN.{getD}
-use Rattle.listings.specs.Places.{bytesOf}
+use Rattle.terms.specs.Places.{bytesOf}
 use Prim.Native.Nat.{_+_, _-_, _≤_}
 use native.Mathlib.Nat.{sub-zero}
 use native.Mathlib.Omega.{arith}
-use Rattle.listings.specs.TermRows.{broaderRows}
+use Rattle.terms.specs.TermRows.{broaderRows}
 use Rattle.listings.specs.Putting.{ruleLaid, rulesLaid}
 use Rattle.listings.proofs.PutWays.{Left, left-all, left-put, left-fits, left-same, left-none}
 use Rattle.listings.proofs.WriteWays.{rules-more, rules-none, hold-row}

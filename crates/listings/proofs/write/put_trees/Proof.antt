@@ -1,7 +1,7 @@
 -- `put_trees` meets its contract.
 use native.Mathlib.Omega.{arith}
 use Rattle.reading.specs.Bytes.{twoBytes}
-use Rattle.listings.specs.TermRows.{broaderRows}
+use Rattle.terms.specs.TermRows.{broaderRows}
 use Rattle.listings.proofs.WriteWays.{part-long, part-put}
 use borrow.Author.Needs.{needs}
 use Rattle.listings.proofs.write.put_trees.Statement.{statement}

@@ -1,0 +1,3 @@
+pub mod PartWays
+pub mod CountWays
+pub mod Chains

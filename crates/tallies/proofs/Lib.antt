@@ -1,0 +1,4 @@
+pub mod Exactly
+pub mod Tallying
+pub mod Taking
+pub mod TallyWays
