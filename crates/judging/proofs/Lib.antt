@@ -1,5 +1,5 @@
 pub mod Arrows
-pub mod Peeling
+pub mod Marking
 pub mod Meeting
 pub mod MetAt
 pub mod Tests

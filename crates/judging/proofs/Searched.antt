@@ -20,7 +20,7 @@ use Rattle.accepted.proofs.Misfits.{and-both}
 use Rattle.accepted.proofs.Reaches.{arrow-in, in-arrow, not-both, not-passed, returns-path, path-returns}
 use Rattle.judging.specs.Marks.{unended, missing, unmarked}
 use Rattle.judging.specs.Search.{Seen, AllSeen, OnStack, Searching, Roomy, Put}
-use Rattle.judging.proofs.Peeling.{unmarked-less}
+use Rattle.judging.proofs.Marking.{unmarked-less}
 
 -- one more is seen
 see-more : (seen : List ℕ) (x y : ℕ) → x < length seen → Seen seen y → Seen (set seen x 1) y

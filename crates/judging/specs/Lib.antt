@@ -1,3 +1,6 @@
+pub mod First
 pub mod Marks
-pub mod Sorts
 pub mod Search
+pub mod Ranks
+pub mod Sorts
+pub mod Words

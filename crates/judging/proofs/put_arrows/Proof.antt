@@ -11,7 +11,7 @@ use Rattle.accepted.specs.Read.{nodeIn, heapIn}
 use Rattle.accepted.specs.Faults.{arrowsOf}
 use Rattle.accepted.proofs.Judged.{heap-at, heap-sized}
 use Rattle.judging.proofs.Arrows.{nth-arrow}
-use Rattle.judging.proofs.Peeling.{not-open}
+use Rattle.judging.proofs.Marking.{not-open}
 use Rattle.judging.proofs.Searched.{Putting, putting-first, putting-on, putting-push, putting-last, is-open, stack-room}
 use Rattle.judging.proofs.put_arrows.Statement.{statement}
 use Rattle.judging.proofs.put_arrows.Tie as tie
