@@ -1,6 +1,9 @@
 pub mod Arrows
 pub mod Marking
+pub mod Searched
+pub mod Falls
 pub mod Meeting
 pub mod MetAt
 pub mod Tests
-pub mod Searched
+pub mod Unfit
+pub mod Firsts

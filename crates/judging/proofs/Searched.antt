@@ -8,7 +8,7 @@ use native.Mathlib.Decide.{ℕ-discrete, decLt}
 use native.Mathlib.Omega.{arith}
 use borrow.Author.Tests.{eq-eqb, ne-eqb, ltb-true, not-true}
 use lib.Dec.{ltb, eqb}
-use lib.ListN.{length, getD, set, length-set}
+use lib.ListN.{length, getD, set, length-set, replicate}
 use lib.Seq.{getD-set-same, getD-set-other}
 use Rattle.nodes.specs.Nodes.{fail, Heap, at}
 use Rattle.rewriting.proofs.Heaps.{there}
@@ -185,12 +185,18 @@ pop {h} {n} {seen} {stack} {k} s = record { reached = s .reached; stacked = λ i
 pub unseen : {h : Heap} {n : ℕ} {seen stack : List ℕ} → ((x : ℕ) → Seen seen x → ⊥) → Searching h n (λ y. y ≡ n) seen stack 0
 unseen none = record { reached = λ x is. absurd (none x is); stacked = λ i lt. absurd (omega arith); done = λ y is. absurd (none y is) }
 
+-- in a row of zeros nothing is
+pub none-seen : (k x : ℕ) → Seen (replicate k 0) x → ⊥
+none-seen zero x is = omega arith
+none-seen (suc k) zero is = omega arith
+none-seen (suc k) (suc x) is = none-seen k x is
+
 -- what is seen stays so
 pub all-on : {h : Heap} {seen seen′ : List ℕ} {y : ℕ} → ((x : ℕ) → Seen seen x → Seen seen′ x) → AllSeen h seen y → AllSeen h seen′ y
 all-on more all = record { each = λ x a lt. more x (all .each x a lt) }
 
 -- a node with an arrow is there
-arrow-there : (h : Heap) (y : ℕ) {x : ℕ} → Arrow x (at h y) → y < length h
+pub arrow-there : (h : Heap) (y : ℕ) {x : ℕ} → Arrow x (at h y) → y < length h
 arrow-there h y a = there h y (λ z. none (subst (Arrow _) z a))
   where
     none : {x : ℕ} → ¬ Arrow x fail
