@@ -15,7 +15,7 @@ use Rattle.nodes.specs.Nodes.{Node, apply, choice, fail, forward, Heap, at}
 use Rattle.sorts.specs.Sorts.{sortOf}
 use Rattle.rewriting.proofs.Heaps.{there, apply≢fail, forward≢fail, choice≢fail}
 use Rattle.accepted.specs.Accepted.{Meets}
-use Rattle.judging.specs.Sorts.{several, joined, metBy, Met, Says, Within, AllMet, leftOf, allLeft, MetPassed}
+use Rattle.judging.specs.Sorts.{several, joined, metBy, Met, Says, Within, AllMet, leftOf, allLeft, MetInOrder, MetPassed}
 
 -- ---- joining
 
@@ -234,6 +234,37 @@ all-left-less (suc n) i v met lt inside less = by (ℕ-discrete n i) (λ lt. all
         between : (n i : ℕ) → i < suc n → (n ≡ i → ⊥) → i < n
         between n i lt q = elim (decLt i n) [ yes le ↦ le | no ge ↦ absurd (q (omega arith)) ]
 
+-- a node of which something is said anew
+module _ (S : Symbols) (small : (f : ℕ) → sortOf S f < 256) (h : Heap) (now : List ℕ) (says : (k : ℕ) → Says (Met S h k) (getD now k 0)) (n v : ℕ)
+    (inside : n < length now) (is : v ≡ metBy S now (getD now n 0) (at h n)) where
+  set-says : (k : ℕ) → Says (Met S h k) (getD (set now n v) k 0)
+  set-says k = by (ℕ-discrete k n)
+    where
+      by : Dec (k ≡ n) → Says (Met S h k) (getD (set now n v) k 0)
+      by (yes q) =
+          subst (λ (j : ℕ). Says (Met S h j) (getD (set now n v) j 0)) (sym q) (rw (getD-set-same now n v 0 inside, is) (anew-says S small h now says n (at h n) refl))
+      by (no q) = rw (getD-set-other now n k v 0 q) (says k)
+
+  set-fewer : n < length h → (v ≡ getD now n 0 → ⊥) → allLeft (length h) (set now n v) < allLeft (length h) now
+  set-fewer lt other =
+      let less : leftOf v < leftOf (getD now n 0) = rw is (anew-less S small h now says n (at h n) (λ z. other (is ∙ z))) in
+      all-left-less (length h) n v now lt inside less
+
+-- ---- in order
+
+pub in-order-first : (S : Symbols) (h : Heap) (met : List ℕ) → ((k : ℕ) → Says (Met S h k) (getD met k 0)) → MetInOrder S h met met
+in-order-first S h met says = record { long = refl; says = says; least = omega arith }
+
+pub in-order-mark : (S : Symbols) (small : (f : ℕ) → sortOf S f < 256) {h : Heap} {before now : List ℕ} (n v : ℕ) → MetInOrder S h before now → n < length h → n < length now
+    → v ≡ metBy S now (getD now n 0) (at h n) → (v ≡ getD now n 0 → ⊥) → MetInOrder S h before (set now n v)
+in-order-mark S small {h} {before} {now} n v p lt inside is other = record {
+  long = length-set now n v ∙ p .long;
+  says = set-says S small h now (p .says) n v inside is;
+  least = omega (arith, set-fewer S small h now (p .says) n v inside is lt other, p .least);
+}
+
+-- ---- down from the last
+
 -- a pass that has come down to node n
 pub record Meeting (S : Symbols) (h : Heap) (before now : List ℕ) (changed : Bool) (n : ℕ) : Type 0 where
   pub down : n ≤ length h
@@ -279,24 +310,17 @@ module _ (S : Symbols) (small : (f : ℕ) → sortOf S f < 256) {h : Heap} {befo
   pub meeting-mark : (v : ℕ) → v ≡ metBy S now (getD now n 0) (at h n) → (v ≡ getD now n 0 → ⊥) → Meeting S h before (set now n v) true n
   meeting-mark v is other =
       let inside : n < length now = omega (arith, p .down, p .room) in
-      let less : leftOf v < leftOf (getD now n 0) = rw is (anew-less S small h now (p .says) n (at h n) (λ z. other (is ∙ z))) in
-      let fewer = all-left-less (length h) n v now (omega (arith, p .down)) inside less in
+      let fewer = set-fewer S small h now (p .says) n v inside is (omega (arith, p .down)) other in
       record {
         down = omega (arith, p .down);
         room = rw length-set (p .room);
         long = length-set now n v ∙ p .long;
-        says = λ k. by k (ℕ-discrete k n) inside;
+        says = set-says S small h now (p .says) n v inside is;
         least = omega (arith, fewer, p .least);
         fewer = λ q. omega (arith, fewer, p .least);
         same = λ q. absurd (let z : _≡_ {A = ℕ} 0 1 = cc in omega arith);
         closed = λ q. absurd (let z : _≡_ {A = ℕ} 0 1 = cc in omega arith);
       }
-    where
-      by : (k : ℕ) → Dec (k ≡ n) → n < length now → Says (Met S h k) (getD (set now n v) k 0)
-      by k (yes q) inside =
-          subst (λ (j : ℕ). Says (Met S h j) (getD (set now n v) j 0)) (sym q)
-          (rw (getD-set-same now n v 0 inside, is) (anew-says S small h now (p .says) n (at h n) refl))
-      by k (no q) inside = rw (getD-set-other now n k v 0 q) (p .says k)
 
 -- it ends before the first
 pub meeting-last : {S : Symbols} {h : Heap} {before now : List ℕ} {changed : Bool} → Meeting S h before now changed 0 → MetPassed S h before now changed

@@ -102,19 +102,19 @@ module _ (S : Symbols) (k : ℕ) (m : List ℕ) (used : ℕ) (met : List ℕ) (a
 -- ---- a row of arguments, from a place on
 
 module _ (met : List ℕ) where
-  none-left : (xs ss : List ℕ) (j : ℕ) → length ss ≤ j → someUnfit met (drop j xs) (drop j ss) ≡ false
+  pub unfit-none-left : (xs ss : List ℕ) (j : ℕ) → length ss ≤ j → someUnfit met (drop j xs) (drop j ss) ≡ false
   unfolding someUnfit
-  none-left [] [] zero le = refl
-  none-left (x ∷ xs) [] zero le = refl
-  none-left xs (s ∷ ss) zero le = absurd (omega arith)
-  none-left [] [] (suc j) le = refl
-  none-left (x ∷ xs) [] (suc j) le = by (drop j xs)
+  unfit-none-left [] [] zero le = refl
+  unfit-none-left (x ∷ xs) [] zero le = refl
+  unfit-none-left xs (s ∷ ss) zero le = absurd (omega arith)
+  unfit-none-left [] [] (suc j) le = refl
+  unfit-none-left (x ∷ xs) [] (suc j) le = by (drop j xs)
     where
       by : (ys : List ℕ) → someUnfit met ys [] ≡ false
       by [] = refl
       by (y ∷ ys) = refl
-  none-left [] (s ∷ ss) (suc j) le = refl
-  none-left (x ∷ xs) (s ∷ ss) (suc j) le = none-left xs ss j (omega arith)
+  unfit-none-left [] (s ∷ ss) (suc j) le = refl
+  unfit-none-left (x ∷ xs) (s ∷ ss) (suc j) le = unfit-none-left xs ss j (omega arith)
 
   one-more : (xs ss : List ℕ) (j : ℕ) → j < length xs → j < length ss
       → someUnfit met (drop j xs) (drop j ss) ≡ (unfit (getD met (getD xs j 0) 0) (getD ss j 0) || someUnfit met (drop (suc j) xs) (drop (suc j) ss))
@@ -126,3 +126,17 @@ module _ (met : List ℕ) where
   one-more (x ∷ (y ∷ xs)) (s ∷ []) zero lx ls = refl
   one-more (x ∷ (y ∷ xs)) (s ∷ (t ∷ ss)) zero lx ls = refl
   one-more (x ∷ xs) (s ∷ ss) (suc j) lx ls = one-more xs ss j (omega arith) (omega arith)
+
+  module _ (xs ss : List ℕ) (j x s : ℕ) (lx : j < length xs) (ls : j < length ss) (arrow : getD xs j 0 ≡ x) (sort : getD ss j 0 ≡ s) where
+    here-is : unfit (getD met (getD xs j 0) 0) (getD ss j 0) ≡ unfit (getD met x 0) s
+    here-is = ap₂ (λ (a b : ℕ). unfit (getD met a 0) b) arrow sort
+
+    -- one that is not bad, and one that is
+    pub unfit-step-none : unfit (getD met x 0) s ≡ false → someUnfit met (drop j xs) (drop j ss) ≡ someUnfit met (drop (j + 1) xs) (drop (j + 1) ss)
+    unfit-step-none e =
+        let next : suc j ≡ j + 1 = omega arith in
+        one-more xs ss j lx ls ∙ ap (λ (b : Bool). b || someUnfit met (drop (suc j) xs) (drop (suc j) ss)) (here-is ∙ e)
+        ∙ ap (λ (i : ℕ). someUnfit met (drop i xs) (drop i ss)) next
+
+    pub unfit-step-some : unfit (getD met x 0) s ≡ true → someUnfit met (drop j xs) (drop j ss) ≡ true
+    unfit-step-some e = one-more xs ss j lx ls ∙ ap (λ (b : Bool). b || someUnfit met (drop (suc j) xs) (drop (suc j) ss)) (here-is ∙ e)

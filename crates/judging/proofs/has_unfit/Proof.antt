@@ -1,66 +1,85 @@
+-- `has_unfit` meets its contract: what is left to look at is what there was at first.
+use mathlib.Core.Bool.{Bool, true, false}
+use mathlib.Core.List.{List}
+use mathlib.Core.Path.{_≡_, refl, sym, ap, subst, _∙_}
+use Prim.Native.Nat.{ℕ, _-_, _<_, _≤_}
+use native.Mathlib.Omega.{arith}
+use lib.ListN.{length, getD, drop}
+use Rattle.nodes.specs.Numbers.{arrowIn}
+use Rattle.rewriting.specs.Lists.{firsts}
+use Rattle.rewriting.proofs.Lists.{length-firsts, getD-firsts}
+use Rattle.judging.specs.Sorts.{unfit, someUnfit}
+use Rattle.judging.proofs.Unfit.{unfit-none-left, unfit-step-none, unfit-step-some}
 use borrow.Author.Needs.{needs}
 use Rattle.judging.proofs.has_unfit.Statement.{statement}
 use Rattle.judging.proofs.has_unfit.Tie as tie
-use Rattle.judging.proofs.has_unfit.Reads as reads
-use Rattle.judging.proofs.has_unfit.Lts as lts
-use Rattle.judging.proofs.is_unfit.Reads as is-unfit-reads
-use Rattle.judging.proofs.number_of.Reads as number-of-reads
-use Rattle.nodes.proofs.arrow_at.Reads as arrow-at-reads
-use Rattle.symbols.proofs.table.arguments_of.Reads as arguments-of-reads
 
 abbrev Inv-loop : tie.InvT-loop
-Inv-loop book table nodes met n f sorts j₀ j = ?
+Inv-loop book table nodes met n f sorts j₀ j =     let xs = firsts (length sorts) (arrowIn nodes n) in
+    (j ≤ length sorts) × (someUnfit met xs sorts ≡ someUnfit met (drop j xs) (drop j sorts))
 
 abbrev μ-loop : tie.MeasureT-loop
-μ-loop book table nodes met n f sorts j₀ j = ?
+μ-loop book table nodes met n f sorts j₀ j = length sorts - j
 
--- src/lib.rt:216:9
 arguments-of-requires : tie.Need-arguments-of-requires Inv-loop μ-loop
 arguments-of-requires c κs = search needs
 
--- src/lib.rt:218:5
 loop-holds : tie.Need-loop-holds Inv-loop μ-loop
-loop-holds c = search needs
+loop-holds c = (omega arith, refl)
 
--- src/lib.rt:219:20
 cast-slot : tie.Need-cast-slot Inv-loop μ-loop
-cast-slot c = search needs
+cast-slot c = omega (arith, c .before .before .arguments-of .ensures .1)
 
--- src/lib.rt:220:36
 arrow-at-requires : tie.Need-arrow-at-requires Inv-loop μ-loop
 arrow-at-requires c κs = search needs
 
--- src/lib.rt:220:21
 number-of-requires : tie.Need-number-of-requires Inv-loop μ-loop
 number-of-requires c κs = search needs
 
--- src/lib.rt:220:63
 shared-slice-read-is-unfit : tie.Need-shared-slice-read-is-unfit Inv-loop μ-loop
 shared-slice-read-is-unfit c = search needs
 
--- src/lib.rt:220:12
 is-unfit-requires : tie.Need-is-unfit-requires Inv-loop μ-loop
 is-unfit-requires c κs = search needs
 
--- src/lib.rt:221:13
 returns : tie.Need-returns Inv-loop μ-loop
-returns c = search needs
+returns c =     let a = c .before .before .before .before .before .before .before .before .before .before .before .before .args in
+    let l = c .before .before .before .before .before .before .loop in
+    let met = a .met .now in
+    let ss = c .before .before .before .before .before .before .before .arguments-of .result .now in
+    let xs = firsts (length ss) (arrowIn (a .nodes .now) (a .n)) in
+    let inside : l .j < length ss = omega arith in
+    let x = c .before .before .before .before .arrow-at in
+    let arrow = getD-firsts (length ss) (arrowIn (a .nodes .now) (a .n)) (l .j) 0 inside ∙ sym (x .ensures) in
+    let bad = ap (λ (v : ℕ). unfit v (getD ss (l .j) 0)) (sym (c .before .before .before .number-of .ensures)) ∙ sym (c .before .is-unfit .ensures) ∙ c .if1 .taken in
+    subst (λ (s : List ℕ). true ≡ someUnfit met (firsts (length s) (arrowIn (a .nodes .now) (a .n))) s) (c .before .before .before .before .before .before .before .arguments-of .ensures .0)
+    (sym (l .inv .1 ∙ unfit-step-some met xs ss (l .j) (x .result) (getD ss (l .j) 0) (omega (arith, length-firsts (length ss) (arrowIn (a .nodes .now) (a .n)))) inside arrow refl bad))
 
--- src/lib.rt:223:9
 add-j : tie.Need-add-j Inv-loop μ-loop
 add-j c = search needs
 
--- src/lib.rt:218:5
 loop-less : tie.Need-loop-less Inv-loop μ-loop
 loop-less c = search needs
 
--- src/lib.rt:218:5
 loop-again : tie.Need-loop-again Inv-loop μ-loop
-loop-again c = search needs
+loop-again c =     let a = c .before .before .before .before .before .before .before .before .before .before .before .before .args in
+    let l = c .before .before .before .before .before .before .loop in
+    let met = a .met .now in
+    let ss = c .before .before .before .before .before .before .before .arguments-of .result .now in
+    let xs = firsts (length ss) (arrowIn (a .nodes .now) (a .n)) in
+    let inside : l .j < length ss = omega arith in
+    let x = c .before .before .before .before .arrow-at in
+    let arrow = getD-firsts (length ss) (arrowIn (a .nodes .now) (a .n)) (l .j) 0 inside ∙ sym (x .ensures) in
+    let fine = ap (λ (v : ℕ). unfit v (getD ss (l .j) 0)) (sym (c .before .before .before .number-of .ensures)) ∙ sym (c .before .is-unfit .ensures) ∙ c .if1 .left in
+    (omega arith, l .inv .1 ∙ unfit-step-none met xs ss (l .j) (x .result) (getD ss (l .j) 0) (omega (arith, length-firsts (length ss) (arrowIn (a .nodes .now) (a .n)))) inside arrow refl fine)
 
--- src/lib.rt:213:1
 returns-2 : tie.Need-returns-2 Inv-loop μ-loop
-returns-2 c = search needs
+returns-2 c =     let a = c .before .before .before .before .before .before .before .args in
+    let l = c .before .loop in
+    let met = a .met .now in
+    let ss = c .before .before .arguments-of .result .now in
+    subst (λ (s : List ℕ). false ≡ someUnfit met (firsts (length s) (arrowIn (a .nodes .now) (a .n))) s) (c .before .before .arguments-of .ensures .0)
+    (sym (l .inv .1 ∙ unfit-none-left met (firsts (length ss) (arrowIn (a .nodes .now) (a .n))) ss (l .j) (omega arith)))
 
 pub has-unfit-spec : {M : Type 1} → statement M
 has-unfit-spec =
