@@ -6,4 +6,5 @@ pub mod Meeting
 pub mod MetAt
 pub mod Tests
 pub mod Unfit
+pub mod Wrong
 pub mod Firsts

@@ -8,7 +8,7 @@ use native.Mathlib.Decide.{ℕ-discrete, decLt}
 use native.Mathlib.Omega.{arith}
 use borrow.Author.Tests.{eq-eqb, ne-eqb, lt-ltb, ltb-true}
 use lib.Dec.{ltb, eqb}
-use lib.ListN.{length, getD, set, length-set}
+use lib.ListN.{length, getD, set, length-set, replicate}
 use lib.Seq.{getD-set-same, getD-set-other}
 use Rattle.symbols.specs.Symbols.{Symbols}
 use Rattle.nodes.specs.Nodes.{Node, apply, choice, fail, forward, Heap, at}
@@ -334,14 +334,20 @@ all-met S small h met says closed = record {
   all = λ n s x. rw (x .sorted) at (closed-met S small h met says closed (x .meets) (x .is) (x .known));
 }
 
+-- of a row of zeros nothing is said
+pub nothing-said : {P : ℕ → Type 0} (k n : ℕ) → Says P (getD (replicate k 0) n 0)
+nothing-said zero n = Says.nothing
+nothing-said (suc k) zero = Says.nothing
+nothing-said (suc k) (suc n) = nothing-said k n
+
 abbrev pub oneIf : Bool → ℕ
 oneIf true = 1
 oneIf false = 0
 
-pub met-less : (S : Symbols) (h : Heap) (before after : List ℕ) (changed again : Bool) → again ≡ true → MetPassed S h before after changed
-    → allLeft (length h) after + oneIf changed < allLeft (length h) before + oneIf again
-met-less S h before after true again is p = rw is (omega (arith, p .fewer refl))
-met-less S h before after false again is p = rw (is, p .same refl) (omega arith)
+pub met-less : (S : Symbols) (h : Heap) (first before after : List ℕ) (changed again : Bool) → again ≡ true → MetInOrder S h first before → MetPassed S h before after changed
+    → allLeft (length h) after + oneIf changed < allLeft (length h) first + oneIf again
+met-less S h first before after true again is o p = rw is (omega (arith, p .fewer refl, o .least))
+met-less S h first before after false again is o p = rw (is, p .same refl) (omega (arith, o .least))
 
 -- ---- as the code joins
 

@@ -173,7 +173,7 @@ pub(crate) fn walk_all(
         done: 0,
         rank: 3201,
     };
-    let mut steps = 35200;
+    let mut steps: usize = 35200;
     while steps != 0 {
         steps -= 1;
         w = step(
