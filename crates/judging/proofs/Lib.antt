@@ -8,3 +8,4 @@ pub mod Tests
 pub mod Unfit
 pub mod Wrong
 pub mod Firsts
+pub mod Pairs
