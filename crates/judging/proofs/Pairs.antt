@@ -11,8 +11,10 @@ use lib.Bits.{bitAnd, and-step, and-zero-r, and-shr}
 use lib.Dec.{leb, eqb}
 use lib.ListN.{getD}
 use lib.Pow.{shr-shr}
+use Rattle.limits.specs.Sizes.{mostChoices}
 use Rattle.limits.specs.Decisions.{isSet}
-use Rattle.accepted.specs.Faults.{someFrom, badSide}
+use Rattle.limits.specs.declared.Entry.{Entry as LentEntry}
+use Rattle.accepted.specs.Faults.{someFrom, badSide, badEntry}
 use Rattle.accepted.proofs.Reaches.{or-left, or-right}
 use Rattle.judging.specs.Words.{bitOf, badPair}
 
@@ -284,3 +286,14 @@ module _ (k : ℕ) (words : List ℕ) (i : ℕ) (lt : i < 8) where
 pub no-word : (k : ℕ) (words : List ℕ) (i : ℕ) → 8 ≤ i → someFrom (badSide k words) (32 * i) (32 * (8 - i)) ≡ false
 unfolding someFrom
 no-word k words i le = ap (someFrom (badSide k words) (32 * i)) (let z : 32 * (8 - i) ≡ 0 = omega arith in z)
+
+-- ---- an entry
+
+module _ (k used : ℕ) (x : LentEntry) where
+  pub entry-root : used ≤ x .root → badEntry k used x ≡ true
+  unfolding badEntry
+  entry-root le = ap (λ (b : Bool). b || someFrom (badSide k (x .words)) 0 mostChoices) (le-leb used (x .root) le)
+
+  pub entry-words : x .root < used → badEntry k used x ≡ someFrom (badSide k (x .words)) 0 mostChoices
+  unfolding badEntry
+  entry-words lt = ap (λ (b : Bool). b || someFrom (badSide k (x .words)) 0 mostChoices) (lt-leb used (x .root) lt)
