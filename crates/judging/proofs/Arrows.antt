@@ -1,11 +1,9 @@
--- The arrows of a node, and marks, as the code reads them.
-use mathlib.Core.Bool.{Bool, true, false, _||_, not}
+-- The arrows of a node, as the code reads them.
+use mathlib.Core.Bool.{Bool, true, false, _||_}
 use mathlib.Core.List.{List, [], _∷_}
 use mathlib.Core.Path.{_≡_, refl, sym, ap, _∙_}
 use Prim.Native.Nat.{ℕ, zero, suc, _+_, _<_, _≤_}
 use native.Mathlib.Omega.{arith}
-use borrow.Author.Tests.{lt-ltb, le-ltb}
-use lib.Dec.{eqb}
 use lib.ListN.{length, getD, drop, List·getD-eq-default}
 use Rattle.symbols.specs.Symbols.{Symbol, noSymbol}
 use Rattle.symbols.specs.Table.{symbolIn, symbolsIn}
@@ -15,21 +13,6 @@ use Rattle.rewriting.proofs.Lists.{length-firsts, getD-firsts}
 use Rattle.sorts.specs.Sorts.{argumentsOf}
 use Rattle.accepted.specs.Read.{nodeBy, nodeIn}
 use Rattle.accepted.specs.Faults.{someOf, arrowsOf}
-use Rattle.judging.specs.Marks.{unended}
-
--- ---- marks
-
-pub open-read : (used x : ℕ) (marks : List ℕ) → x < used → not (eqb (getD marks x 0) 1) ≡ unended used marks x
-unfolding unended
-open-read used x marks lt = rw (lt-ltb x used lt) refl
-
-pub open-past : (used x : ℕ) (marks : List ℕ) → x < used → length marks ≤ x → true ≡ unended used marks x
-unfolding unended
-open-past used x marks lt past = rw (lt-ltb x used lt, List·getD-eq-default marks 0 past) refl
-
-pub open-outside : (used x : ℕ) (marks : List ℕ) → used ≤ x → false ≡ unended used marks x
-unfolding unended
-open-outside used x marks past = rw (le-ltb x used past) refl
 
 -- ---- how many arrows
 

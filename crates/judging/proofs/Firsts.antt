@@ -1,6 +1,6 @@
 -- The first number for which a test holds, as a loop finds it, and as the definition refuses.
 use mathlib.Core.Bool.{Bool, true, false}
-use mathlib.Core.Path.{_≡_, refl, sym, ap, ap₂, _∙_}
+use mathlib.Core.Path.{_≡_, refl, sym, ap, _∙_}
 use Prim.Native.Nat.{ℕ, zero, suc, _+_, _-_, _<_, _≤_}
 use native.Mathlib.Omega.{arith}
 use Rattle.reading.specs.Reading.{Reading, refusal, refuse_at_if_else_}

@@ -1,5 +1,5 @@
 pub mod Arrows
-pub mod Marking
+pub mod Unseen
 pub mod Searched
 pub mod Falls
 pub mod Meeting

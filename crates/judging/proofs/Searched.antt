@@ -18,9 +18,8 @@ use Rattle.accepted.specs.Faults.{arrowsOf, returns}
 use Rattle.accepted.proofs.Circles.{path-end}
 use Rattle.accepted.proofs.Misfits.{and-both}
 use Rattle.accepted.proofs.Reaches.{arrow-in, in-arrow, not-both, not-passed, returns-path, path-returns}
-use Rattle.judging.specs.Marks.{unended, missing, unmarked}
-use Rattle.judging.specs.Search.{Seen, AllSeen, OnStack, Searching, Roomy, Put}
-use Rattle.judging.proofs.Marking.{unmarked-less}
+use Rattle.judging.specs.Search.{Seen, isUnseen, missing, unseen, AllSeen, OnStack, Searching, Roomy, Put}
+use Rattle.judging.proofs.Unseen.{unseen-less}
 
 -- one more is seen
 see-more : (seen : List ℕ) (x y : ℕ) → x < length seen → Seen seen y → Seen (set seen x 1) y
@@ -67,7 +66,7 @@ push {h} {n} {P} {seen} {stack} {top} x lt inside room path s = record {
 pub record Putting (h : Heap) (from : ℕ) (seen stack : List ℕ) (height : ℕ) (seen′ stack′ : List ℕ) (top j : ℕ) : Type 0 where
   pub same-seen : length seen′ ≡ length seen
   pub same-stack : length stack′ ≡ length stack
-  pub sum : top + unmarked (length h) seen′ ≡ height + unmarked (length h) seen
+  pub sum : top + unseen (length h) seen′ ≡ height + unseen (length h) seen
   pub more : (x : ℕ) → Seen seen x → Seen seen′ x
   pub first : (i : ℕ) → i < j → i < length (arrowsOf (at h from)) → getD (arrowsOf (at h from)) i 0 < length h → Seen seen′ (getD (arrowsOf (at h from)) i 0)
   pub goes : (n : ℕ) → (from ≡ n) ⊎ Path h n from → Searching h n (λ y. y ≡ from) seen stack height → Searching h n (λ y. y ≡ from) seen′ stack′ top
@@ -121,7 +120,7 @@ module _ {h : Heap} {from : ℕ} {seen stack : List ℕ} {height : ℕ} {seen′
   putting-push lt inside there room other = record {
     same-seen = length-set seen′ x 1 ∙ p .same-seen;
     same-stack = length-set stack′ top x ∙ p .same-stack;
-    sum = omega (arith, p .sum, unmarked-less (length h) x seen′ inside there other);
+    sum = omega (arith, p .sum, unseen-less (length h) x seen′ inside there other);
     more = λ y s. see-more seen′ x y there (p .more y s);
     first = λ i lt b c. by i (ℕ-discrete i j) lt b c;
     goes = λ n from-n s.
@@ -160,11 +159,11 @@ putting-last {h} {from} {seen′ = seen′} {stack′} {top} {j} p le = record {
     by y (inr r) = inr r
 
 -- what the code's test says
-pub is-open : (used x : ℕ) (marks : List ℕ) → unended used marks x ≡ true → (x < used) × (Seen marks x → ⊥)
-unfolding unended
-is-open used x marks e =
-    let (a, b) = and-both (ltb x used) (not (eqb (getD marks x 0) 1)) e in
-    (ltb-true _ _ a, λ q. not-both (eqb (getD marks x 0) 1) (not-true _ b) (eq-eqb (getD marks x 0) 1 q))
+pub is-unseen : (used x : ℕ) (seen : List ℕ) → isUnseen used seen x ≡ true → (x < used) × (Seen seen x → ⊥)
+unfolding isUnseen
+is-unseen used x seen e =
+    let (a, b) = and-both (ltb x used) (not (eqb (getD seen x 0) 1)) e in
+    (ltb-true _ _ a, λ q. not-both (eqb (getD seen x 0) 1) (not-true _ b) (eq-eqb (getD seen x 0) 1 q))
 
 -- ---- the stack
 
@@ -182,8 +181,8 @@ pop {h} {n} {seen} {stack} {k} s = record { reached = s .reached; stacked = λ i
     by y (inr (inr all)) = inr (inr all)
 
 -- nothing is seen yet
-pub unseen : {h : Heap} {n : ℕ} {seen stack : List ℕ} → ((x : ℕ) → Seen seen x → ⊥) → Searching h n (λ y. y ≡ n) seen stack 0
-unseen none = record { reached = λ x is. absurd (none x is); stacked = λ i lt. absurd (omega arith); done = λ y is. absurd (none y is) }
+pub nothing-seen : {h : Heap} {n : ℕ} {seen stack : List ℕ} → ((x : ℕ) → Seen seen x → ⊥) → Searching h n (λ y. y ≡ n) seen stack 0
+nothing-seen none = record { reached = λ x is. absurd (none x is); stacked = λ i lt. absurd (omega arith); done = λ y is. absurd (none y is) }
 
 -- in a row of zeros nothing is
 pub none-seen : (k x : ℕ) → Seen (replicate k 0) x → ⊥
@@ -233,25 +232,25 @@ pub stack-room : {h : Heap} {from : ℕ} {seen stack : List ℕ} {height : ℕ} 
     → length h ≡ used → Roomy used seen stack height → x < used → (Seen seen′ x → ⊥) → (x < length seen′) × (top < used) × (top < length stack′)
 stack-room {h} {seen = seen} {height = height} {seen′ = seen′} {top = top} used x p sized roomy lt other =
     let there : x < length seen′ = omega (arith, p .same-seen, roomy .long) in
-    let some = unmarked-less (length h) x seen′ (omega arith) there other in
-    let count : height + unmarked (length h) seen ≤ used = subst (λ (k : ℕ). height + unmarked k seen ≤ used) (sym sized) (roomy .count) in
+    let some = unseen-less (length h) x seen′ (omega arith) there other in
+    let count : height + unseen (length h) seen ≤ used = subst (λ (k : ℕ). height + unseen k seen ≤ used) (sym sized) (roomy .count) in
     let low : top < used = omega (arith, p .sum, some, count) in
     (there, low, omega (arith, low, p .same-stack, roomy .high))
 
 -- no more than all are not marked
-pub unmarked-most : (n : ℕ) (marks : List ℕ) → unmarked n marks ≤ n
-unfolding unmarked missing
-unmarked-most zero marks = omega arith
-unmarked-most (suc n) marks = by (eqb (getD marks n 0) 1) (unmarked-most n marks)
+pub unseen-most : (n : ℕ) (seen : List ℕ) → unseen n seen ≤ n
+unfolding unseen missing
+unseen-most zero seen = omega arith
+unseen-most (suc n) seen = by (eqb (getD seen n 0) 1) (unseen-most n seen)
   where
-    by : (b : Bool) → unmarked n marks ≤ n → (elim b [ true ↦ 0 | false ↦ 1 ]) + unmarked n marks ≤ suc n
+    by : (b : Bool) → unseen n seen ≤ n → (elim b [ true ↦ 0 | false ↦ 1 ]) + unseen n seen ≤ suc n
     by true le = omega arith
     by false le = omega arith
 
 module _ {h : Heap} {from : ℕ} {seen stack : List ℕ} {height : ℕ} {seen′ stack′ : List ℕ} {top : ℕ} (used : ℕ) (p : Put h from seen stack height seen′ stack′ top) (sized : length h ≡ used) where
   -- the sum stays
-  pub put-sum : top + unmarked used seen′ ≡ height + unmarked used seen
-  put-sum = subst (λ (k : ℕ). top + unmarked k seen′ ≡ height + unmarked k seen) sized (p .sum)
+  pub put-sum : top + unseen used seen′ ≡ height + unseen used seen
+  put-sum = subst (λ (k : ℕ). top + unseen k seen′ ≡ height + unseen k seen) sized (p .sum)
 
   -- and so does the room
   pub put-room : Roomy used seen stack height → Roomy used seen′ stack′ top

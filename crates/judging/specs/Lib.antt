@@ -1,5 +1,4 @@
 pub mod First
-pub mod Marks
 pub mod Search
 pub mod Ranks
 pub mod Sorts

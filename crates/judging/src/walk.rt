@@ -38,7 +38,14 @@ fn put_number(row: &mut [u16], i: u16, v: u16) {
 }
 
 // The walk goes to node x, which it has not met. Until it has its rank a node has the lowest number of those met before it that it leads to.
-fn enter(w: Walk, x: u16, first: &mut [u16], path: &mut [u16], held: &mut [u16], ranks: &mut [u16]) -> Walk {
+fn enter(
+    w: Walk,
+    x: u16,
+    first: &mut [u16],
+    path: &mut [u16],
+    held: &mut [u16],
+    ranks: &mut [u16],
+) -> Walk {
     let met = one_more(w.met);
     put_number(first, x, met);
     put_number(ranks, x, met);
@@ -69,7 +76,14 @@ fn give_rank(held: &[u16], height: u16, v: u16, rank: u16, ranks: &mut [u16]) ->
 }
 
 // The walk is done with node v. If it leads to no node met before it that has no rank, those met since that have none lie on circles with it.
-fn leave(w: Walk, v: u16, first: &[u16], held: &[u16], order: &mut [u16], ranks: &mut [u16]) -> Walk {
+fn leave(
+    w: Walk,
+    v: u16,
+    first: &[u16],
+    held: &[u16],
+    order: &mut [u16],
+    ranks: &mut [u16],
+) -> Walk {
     put_number(order, w.done, v);
     let done = one_more(w.done);
     let height = one_less(w.height);
@@ -96,7 +110,11 @@ fn leave(w: Walk, v: u16, first: &[u16], held: &[u16], order: &mut [u16], ranks:
 
 // Whether node x is one of the first `used` that is not met.
 fn is_new(used: usize, ranks: &[u16], x: u16) -> bool {
-    if wide(x) < used { number_of(ranks, x) == 0 } else { false }
+    if wide(x) < used {
+        number_of(ranks, x) == 0
+    } else {
+        false
+    }
 }
 
 // Where an arrow of v leads to x, v gets the lower number of the two.

@@ -8,9 +8,8 @@ use lib.ListN.{length, getD}
 use Rattle.symbols.specs.Table.{symbolsIn}
 use Rattle.accepted.specs.Read.{heapIn}
 use Rattle.accepted.proofs.Judged.{heap-sized}
-use Rattle.judging.specs.Marks.{unmarked}
-use Rattle.judging.specs.Search.{AllSeen, Searching, Roomy}
-use Rattle.judging.proofs.Searched.{pop, unseen, all-on, unmarked-most, put-sum, put-room, search-says}
+use Rattle.judging.specs.Search.{unseen, AllSeen, Searching, Roomy}
+use Rattle.judging.proofs.Searched.{pop, nothing-seen, all-on, unseen-most, put-sum, put-room, search-says}
 use Rattle.judging.proofs.comes_back.Statement.{statement}
 use Rattle.judging.proofs.comes_back.Tie as tie
 
@@ -20,11 +19,11 @@ Inv-loop book table nodes used n seen₀ stack₀ height₀ seen stack height =
     Roomy used seen stack height × Searching h n (λ y. ⊥) seen stack height × AllSeen h seen n × (length seen ≡ length seen₀) × (length stack ≡ length stack₀)
 
 abbrev μ-loop : tie.MeasureT-loop
-μ-loop book table nodes used n seen₀ stack₀ height₀ seen stack height = height + unmarked used seen
+μ-loop book table nodes used n seen₀ stack₀ height₀ seen stack height = height + unseen used seen
 
 -- src/lib.rt:232:9
 put-arrows-requires : tie.Need-put-arrows-requires Inv-loop μ-loop
-put-arrows-requires c κs = let start = c .before .before .before .before .before .before .before in let a = start .args in (record { long = start .pre .0; high = start .pre .1; count = omega (arith, unmarked-most (a .used) (a .seen .now)) }, start .pre .2, start .pre .3)
+put-arrows-requires c κs = let start = c .before .before .before .before .before .before .before in let a = start .args in (record { long = start .pre .0; high = start .pre .1; count = omega (arith, unseen-most (a .used) (a .seen .now)) }, start .pre .2, start .pre .3)
 
 -- src/lib.rt:233:5
 loop-holds : tie.Need-loop-holds Inv-loop μ-loop
@@ -35,8 +34,8 @@ loop-holds c =
     let h = heapIn S (a .nodes .now) (a .used) in
     let sized : length h ≡ a .used = heap-sized S (a .nodes .now) (a .used) in
     let put = c .before .before .before .before .put-arrows .ensures in
-    let roomy : Roomy (a .used) (a .seen .now) (a .stack .now) 0 = record { long = start .pre .0; high = start .pre .1; count = omega (arith, unmarked-most (a .used) (a .seen .now)) } in
-    (put-room (a .used) put sized roomy, put .goes (a .n) (inl refl) (unseen (start .pre .4)), put .all, refl, refl)
+    let roomy : Roomy (a .used) (a .seen .now) (a .stack .now) 0 = record { long = start .pre .0; high = start .pre .1; count = omega (arith, unseen-most (a .used) (a .seen .now)) } in
+    (put-room (a .used) put sized roomy, put .goes (a .n) (inl refl) (nothing-seen (start .pre .4)), put .all, refl, refl)
 
 -- src/lib.rt:234:9
 sub-height : tie.Need-sub-height Inv-loop μ-loop

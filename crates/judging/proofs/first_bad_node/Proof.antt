@@ -15,7 +15,7 @@ first-bad-of-requires : tie.Need-first-bad-of-requires
 first-bad-of-requires c κs = search needs
 
 returns : tie.Need-returns
-returns c =     let a = c .before .before .before .before .before .args in
+returns c = let a = c .before .before .before .before .before .args in
     let S = symbolsIn (a .book .now) (a .table .now) in
     let m = a .nodes .now in
     let many : mostNodes ≡ min mostNodes (a .used) = omega (arith, c .before .if1 .taken) in
@@ -25,7 +25,7 @@ first-bad-of-requires-2 : tie.Need-first-bad-of-requires-2
 first-bad-of-requires-2 c κs = search needs
 
 returns-2 : tie.Need-returns-2
-returns-2 c =     let a = c .before .before .before .before .before .args in
+returns-2 c = let a = c .before .before .before .before .before .args in
     let S = symbolsIn (a .book .now) (a .table .now) in
     let m = a .nodes .now in
     let many : a .used ≡ min mostNodes (a .used) = omega (arith, c .before .if1 .left) in

@@ -1,6 +1,6 @@
 -- `first_bad_of` meets its contract: no node before the one looked at is bad.
-use mathlib.Core.Bool.{Bool, true, false, _||_}
-use mathlib.Core.Path.{_≡_, refl, sym, ap, ap₂, _∙_}
+use mathlib.Core.Bool.{Bool, true, _||_}
+use mathlib.Core.Path.{_≡_, sym, ap, ap₂, _∙_}
 use Prim.Native.Nat.{ℕ, _-_, _<_, _≤_}
 use native.Mathlib.Omega.{arith}
 use lib.ListN.{length, length-replicate}
@@ -19,7 +19,7 @@ use Rattle.judging.proofs.first_bad_of.Statement.{statement}
 use Rattle.judging.proofs.first_bad_of.Tie as tie
 
 abbrev Inv-loop : tie.InvT-loop
-Inv-loop book table nodes used choices ranks met falling n₀ n =     let S = symbolsIn book table in
+Inv-loop book table nodes used choices ranks met falling n₀ n = let S = symbolsIn book table in
     let h = heapIn S nodes used in
     let bad = badNode S choices nodes h in
     (n ≤ used) × (firstOf bad 0 used ≡ firstOf bad n (used - n)) × AllMet S h met × (falling ≡ true → Falling h ranks) × (length met ≡ mostNodes) × (length ranks ≡ mostNodes)
@@ -43,7 +43,7 @@ slice-aggregate-mark-met-2 : tie.Need-slice-aggregate-mark-met-2 Inv-loop μ-loo
 slice-aggregate-mark-met-2 c = search needs
 
 mark-met-requires : tie.Need-mark-met-requires Inv-loop μ-loop
-mark-met-requires c κs =     let start = c .before .before .before .before .before .before .before .before .before .before in
+mark-met-requires c κs = let start = c .before .before .before .before .before .before .before .before .before .before in
     let a = start .args in
     let bytes = c .before .before .before .before .before .before .before .before .before .shared-slice-known .given in
     let zeros = length-replicate {A = ℕ} mostNodes 0 in
@@ -56,7 +56,7 @@ none-rises-requires : tie.Need-none-rises-requires Inv-loop μ-loop
 none-rises-requires c κs = c .before .before .before .before .before .before .before .before .before .before .before .before .before .pre
 
 loop-holds : tie.Need-loop-holds Inv-loop μ-loop
-loop-holds c =     let zeros = length-replicate {A = ℕ} mostNodes 0 in
+loop-holds c = let zeros = length-replicate {A = ℕ} mostNodes 0 in
     (omega arith, ap (firstOf _ 0) (let z : c .before .before .before .before .before .before .before .before .before .before .before .before .before .before .args .used ≡ c .before .before .before .before .before .before .before .before .before .before .before .before .before .before .args .used - 0 = omega arith in z), c .before .before .before .mark-met .ensures, c .none-rises .ensures, c .before .before .before .mark-met .kept .1 .1 .1 .1 .1 .0 ∙ zeros, c .before .before .before .before .before .before .before .before .walk-all .kept .1 .1 .1 .1 .1 .0 ∙ zeros)
 
 cast-node : tie.Need-cast-node Inv-loop μ-loop
@@ -69,7 +69,7 @@ is-wrong-requires : tie.Need-is-wrong-requires Inv-loop μ-loop
 is-wrong-requires c κs = search needs
 
 returns : tie.Need-returns Inv-loop μ-loop
-returns c =     let l = c .before .before .before .before .loop in
+returns c = let l = c .before .before .before .before .loop in
     let start = c .before .before .before .before .before .before .before .before .before .before .before .before .before .before .before .before .before .before .before in
     let a = start .args in
     let bytes = c .before .before .before .before .before .before .before .before .before .before .before .before .before .before .before .before .before .before .shared-slice-known .given in
@@ -88,7 +88,7 @@ is-on-circle-requires : tie.Need-is-on-circle-requires Inv-loop μ-loop
 is-on-circle-requires c κs = let start = c .before .before .before .before .before .before .before .before .before .before .before .before .before .before .before .before .before .before .before .before in let l = c .before .before .before .before .before .loop in (omega (arith, c .before .before .before .before .loop-test .taken), start .pre, l .inv .3)
 
 returns-2 : tie.Need-returns-2 Inv-loop μ-loop
-returns-2 c =     let l = c .before .before .before .before .before .before .before .loop in
+returns-2 c = let l = c .before .before .before .before .before .before .before .loop in
     let start = c .before .before .before .before .before .before .before .before .before .before .before .before .before .before .before .before .before .before .before .before .before .before in
     let a = start .args in
     let bytes = c .before .before .before .before .before .before .before .before .before .before .before .before .before .before .before .before .before .before .before .before .before .shared-slice-known .given in
@@ -107,7 +107,7 @@ loop-less : tie.Need-loop-less Inv-loop μ-loop
 loop-less c = search needs
 
 loop-again : tie.Need-loop-again Inv-loop μ-loop
-loop-again c =     let l = c .before .before .before .before .before .before .before .loop in
+loop-again c = let l = c .before .before .before .before .before .before .before .loop in
     let start = c .before .before .before .before .before .before .before .before .before .before .before .before .before .before .before .before .before .before .before .before .before .before in
     let a = start .args in
     let bytes = c .before .before .before .before .before .before .before .before .before .before .before .before .before .before .before .before .before .before .before .before .before .shared-slice-known .given in
@@ -121,7 +121,7 @@ loop-again c =     let l = c .before .before .before .before .before .before .be
     (omega arith, l .inv .1 ∙ first-on bad (a .used) (l .n) lt fine, l .inv .2, l .inv .3, l .inv .4, l .inv .5)
 
 returns-3 : tie.Need-returns-3 Inv-loop μ-loop
-returns-3 c =     let l = c .before .loop in
+returns-3 c = let l = c .before .loop in
     let a = c .before .before .before .before .before .before .before .before .before .before .before .before .before .before .before .before .args in
     let S = symbolsIn (a .book .now) (a .table .now) in
     let m = a .nodes .now in

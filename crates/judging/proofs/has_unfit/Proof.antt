@@ -1,5 +1,5 @@
 -- `has_unfit` meets its contract: what is left to look at is what there was at first.
-use mathlib.Core.Bool.{Bool, true, false}
+use mathlib.Core.Bool.{true, false}
 use mathlib.Core.List.{List}
 use mathlib.Core.Path.{_≡_, refl, sym, ap, subst, _∙_}
 use Prim.Native.Nat.{ℕ, _-_, _<_, _≤_}
@@ -15,7 +15,7 @@ use Rattle.judging.proofs.has_unfit.Statement.{statement}
 use Rattle.judging.proofs.has_unfit.Tie as tie
 
 abbrev Inv-loop : tie.InvT-loop
-Inv-loop book table nodes met n f sorts j₀ j =     let xs = firsts (length sorts) (arrowIn nodes n) in
+Inv-loop book table nodes met n f sorts j₀ j = let xs = firsts (length sorts) (arrowIn nodes n) in
     (j ≤ length sorts) × (someUnfit met xs sorts ≡ someUnfit met (drop j xs) (drop j sorts))
 
 abbrev μ-loop : tie.MeasureT-loop
@@ -43,7 +43,7 @@ is-unfit-requires : tie.Need-is-unfit-requires Inv-loop μ-loop
 is-unfit-requires c κs = search needs
 
 returns : tie.Need-returns Inv-loop μ-loop
-returns c =     let a = c .before .before .before .before .before .before .before .before .before .before .before .before .args in
+returns c = let a = c .before .before .before .before .before .before .before .before .before .before .before .before .args in
     let l = c .before .before .before .before .before .before .loop in
     let met = a .met .now in
     let ss = c .before .before .before .before .before .before .before .arguments-of .result .now in
@@ -62,7 +62,7 @@ loop-less : tie.Need-loop-less Inv-loop μ-loop
 loop-less c = search needs
 
 loop-again : tie.Need-loop-again Inv-loop μ-loop
-loop-again c =     let a = c .before .before .before .before .before .before .before .before .before .before .before .before .args in
+loop-again c = let a = c .before .before .before .before .before .before .before .before .before .before .before .before .args in
     let l = c .before .before .before .before .before .before .loop in
     let met = a .met .now in
     let ss = c .before .before .before .before .before .before .before .arguments-of .result .now in
@@ -74,7 +74,7 @@ loop-again c =     let a = c .before .before .before .before .before .before .be
     (omega arith, l .inv .1 ∙ unfit-step-none met xs ss (l .j) (x .result) (getD ss (l .j) 0) (omega (arith, length-firsts (length ss) (arrowIn (a .nodes .now) (a .n)))) inside arrow refl fine)
 
 returns-2 : tie.Need-returns-2 Inv-loop μ-loop
-returns-2 c =     let a = c .before .before .before .before .before .before .before .args in
+returns-2 c = let a = c .before .before .before .before .before .before .before .args in
     let l = c .before .loop in
     let met = a .met .now in
     let ss = c .before .before .arguments-of .result .now in

@@ -1,13 +1,10 @@
 -- `is_bad_entry` meets its contract: what is left to look at is what there was at first.
-use mathlib.Core.Bool.{Bool, true, false, _||_}
 use mathlib.Core.Path.{_≡_, refl, sym, ap, _∙_}
-use Prim.Native.Nat.{ℕ, _+_, _-_, _*_, _<_, _≤_}
+use Prim.Native.Nat.{ℕ, _-_, _*_, _≤_}
 use native.Mathlib.Omega.{arith}
-use borrow.Author.Tests.{le-leb, lt-leb}
-use lib.Dec.{leb}
 use lib.ListN.{getD}
 use Rattle.limits.specs.Sizes.{mostChoices}
-use Rattle.accepted.specs.Faults.{someFrom, badSide, badEntry}
+use Rattle.accepted.specs.Faults.{someFrom, badSide}
 use Rattle.judging.specs.Words.{badPair}
 use Rattle.judging.proofs.Pairs.{entry-root, entry-words, word-bad, word-fine, no-word}
 use borrow.Author.Needs.{needs}
@@ -24,7 +21,7 @@ wide-requires : tie.Need-wide-requires Inv-loop μ-loop
 wide-requires c κs = search needs
 
 returns : tie.Need-returns Inv-loop μ-loop
-returns c =     let a = c .before .before .args in
+returns c = let a = c .before .before .args in
     sym (entry-root (a .choices) (a .used) (a .e) (omega (arith, c .before .wide .ensures .0, c .if1 .taken)))
 
 loop-holds : tie.Need-loop-holds Inv-loop μ-loop
@@ -46,7 +43,7 @@ is-bad-word-requires : tie.Need-is-bad-word-requires Inv-loop μ-loop
 is-bad-word-requires c κs = search needs
 
 returns-2 : tie.Need-returns-2 Inv-loop μ-loop
-returns-2 c =     let a = c .before .before .before .before .before .before .before .before .args in
+returns-2 c = let a = c .before .before .before .before .before .before .before .before .args in
     let l = c .before .before .before .before .loop in
     let words = a .e .words in
     let bad = ap (λ (k : ℕ). someFrom (badPair k (getD words (l .i) 0)) 0 32) (sym (c .before .before .between .ensures)) ∙ sym (c .before .is-bad-word .ensures) ∙ c .if2 .taken in
@@ -60,14 +57,14 @@ loop-less : tie.Need-loop-less Inv-loop μ-loop
 loop-less c = search needs
 
 loop-again : tie.Need-loop-again Inv-loop μ-loop
-loop-again c =     let a = c .before .before .before .before .before .before .before .before .args in
+loop-again c = let a = c .before .before .before .before .before .before .before .before .args in
     let l = c .before .before .before .before .loop in
     let words = a .e .words in
     let fine = ap (λ (k : ℕ). someFrom (badPair k (getD words (l .i) 0)) 0 32) (sym (c .before .before .between .ensures)) ∙ sym (c .before .is-bad-word .ensures) ∙ c .if2 .left in
     (omega arith, l .inv .1 ∙ word-fine (a .choices) words (l .i) (c .before .before .before .loop-test .taken) fine)
 
 returns-3 : tie.Need-returns-3 Inv-loop μ-loop
-returns-3 c =     let a = c .before .before .before .before .before .args in
+returns-3 c = let a = c .before .before .before .before .before .args in
     let l = c .before .loop in
     sym (entry-words (a .choices) (a .used) (a .e) (omega (arith, c .before .before .before .before .wide .ensures .0, c .before .before .before .if1 .left)) ∙ l .inv .1 ∙ no-word (a .choices) (a .e .words) (l .i) (c .loop-test .left))
 

@@ -1,10 +1,9 @@
 -- `is_on_circle` meets its contract.
 use mathlib.Core.Path.{_≡_, sym, ap, _∙_}
 use Prim.Native.Nat.{ℕ}
-use native.Mathlib.Omega.{arith}
 use borrow.Author.Tests.{not-true}
-use lib.ListN.{length, getD}
-use Rattle.nodes.specs.Nodes.{Node, at}
+use lib.ListN.{getD}
+use Rattle.nodes.specs.Nodes.{Node}
 use Rattle.symbols.specs.Table.{symbolsIn}
 use Rattle.accepted.specs.Read.{nodeIn, heapIn}
 use Rattle.accepted.specs.Faults.{someOf, arrowsOf}
@@ -25,7 +24,7 @@ leads-up-requires : tie.Need-leads-up-requires
 leads-up-requires c κs = search needs
 
 returns : tie.Need-returns
-returns c =     let start = c .before .before .before .before .before .before .before .before .before in
+returns c = let start = c .before .before .before .before .before .before .before .before .before in
     let a = start .args in
     let S = symbolsIn (a .book .now) (a .table .now) in
     let m = a .nodes .now in

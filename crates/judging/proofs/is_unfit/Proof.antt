@@ -1,6 +1,6 @@
 -- `is_unfit` meets its contract.
 use mathlib.Core.Bool.{not}
-use mathlib.Core.Path.{_≡_, sym, ap, _∙_}
+use mathlib.Core.Path.{sym, ap, _∙_}
 use Prim.Native.Nat.{ℕ, _+_}
 use lib.Dec.{eqb}
 use Rattle.judging.proofs.Unfit.{unfit-none, unfit-some}
@@ -18,7 +18,7 @@ add-result : tie.Need-add-result
 add-result c = search needs
 
 returns-2 : tie.Need-returns-2
-returns-2 c =     let a = c .before .before .args in
+returns-2 c = let a = c .before .before .args in
     ap (λ (n : ℕ). not (eqb (a .said) (n + 1))) (c .widened .ensures .0) ∙ sym (unfit-some (a .said) (a .s) (c .before .if1 .left))
 
 pub is-unfit-spec : {M : Type 1} → statement M

@@ -1,5 +1,5 @@
 -- `is_wrong` meets its contract: one of three tests.
-use mathlib.Core.Path.{_≡_, sym, _∙_}
+use mathlib.Core.Path.{sym, _∙_}
 use native.Mathlib.Omega.{arith}
 use borrow.Author.Tests.{lt-ltb, le-ltb}
 use lib.Dec.{leb, ltb}
@@ -33,7 +33,7 @@ leads-outside-requires : tie.Need-leads-outside-requires
 leads-outside-requires c κs = search needs
 
 returns-3 : tie.Need-returns-3
-returns-3 c =     c .leads-outside .ensures
+returns-3 c = c .leads-outside .ensures
     ∙ third-of _ _ _ (le-ltb 3 (kindIn (c .before .before .before .before .before .before .before .before .before .args .nodes .now) (c .before .before .before .before .before .before .before .before .before .args .n)) (omega (arith, c .before .before .before .before .kind-at .ensures, c .before .before .before .if1 .left))) (sym (c .before .before .is-wrong-by .ensures) ∙ c .before .if2 .left)
 
 pub is-wrong-spec : {M : Type 1} → statement M

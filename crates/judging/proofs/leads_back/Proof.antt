@@ -1,5 +1,4 @@
 -- `leads_back` meets its contract: nothing is seen at first.
-use Prim.Native.Nat.{ℕ}
 use native.Mathlib.Omega.{arith}
 use Rattle.limits.specs.Sizes.{mostNodes}
 use Rattle.judging.proofs.Searched.{none-seen}

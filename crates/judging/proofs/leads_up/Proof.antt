@@ -1,9 +1,8 @@
 -- `leads_up` meets its contract: what is left to look at is what there was at first.
-use mathlib.Core.Path.{_≡_, refl, sym, ap, _∙_}
+use mathlib.Core.Path.{_≡_, refl, sym, _∙_}
 use Prim.Native.Nat.{_-_, _<_, _≤_}
 use native.Mathlib.Omega.{arith}
-use borrow.Author.Tests.{le-leb, lt-leb}
-use lib.ListN.{length, drop, getD}
+use lib.ListN.{length, drop}
 use Rattle.symbols.specs.Table.{symbolsIn}
 use Rattle.accepted.specs.Read.{nodeIn}
 use Rattle.accepted.specs.Faults.{someOf, arrowsOf}
@@ -39,7 +38,7 @@ wide-requires : tie.Need-wide-requires Inv-loop μ-loop
 wide-requires c κs = search needs
 
 returns : tie.Need-returns Inv-loop μ-loop
-returns c =     let a = c .before .before .before .before .before .before .before .before .before .before .before .args in
+returns c = let a = c .before .before .before .before .before .before .before .before .before .before .before .args in
     let l = c .before .before .before .before .before .loop in
     let xs = arrowsOf (nodeIn (symbolsIn (a .book .now) (a .table .now)) (a .nodes .now) (a .n)) in
     let inside : l .j < length xs = omega (arith, c .before .before .before .before .before .before .arrows-at .ensures .0) in
@@ -55,7 +54,7 @@ loop-less : tie.Need-loop-less Inv-loop μ-loop
 loop-less c = search needs
 
 loop-again : tie.Need-loop-again Inv-loop μ-loop
-loop-again c =     let a = c .before .before .before .before .before .before .before .before .before .before .before .args in
+loop-again c = let a = c .before .before .before .before .before .before .before .before .before .before .before .args in
     let l = c .before .before .before .before .before .loop in
     let xs = arrowsOf (nodeIn (symbolsIn (a .book .now) (a .table .now)) (a .nodes .now) (a .n)) in
     let inside : l .j < length xs = omega (arith, c .before .before .before .before .before .before .arrows-at .ensures .0) in
@@ -65,7 +64,7 @@ loop-again c =     let a = c .before .before .before .before .before .before .be
     (omega arith, l .inv .1 ∙ step-none (ranked (a .ranks .now) (a .least)) xs (l .j) (x .result) inside arrow (not-ranked (a .ranks .now) (a .least) (x .result) (omega (arith, rank, c .if1 .left))))
 
 returns-2 : tie.Need-returns-2 Inv-loop μ-loop
-returns-2 c =     let a = c .before .before .before .before .before .before .before .args in
+returns-2 c = let a = c .before .before .before .before .before .before .before .args in
     let l = c .before .loop in
     let xs = arrowsOf (nodeIn (symbolsIn (a .book .now) (a .table .now)) (a .nodes .now) (a .n)) in
     sym (l .inv .1 ∙ none-left (ranked (a .ranks .now) (a .least)) xs (l .j) (omega (arith, c .before .before .arrows-at .ensures .0)))

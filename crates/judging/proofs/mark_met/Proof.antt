@@ -9,12 +9,11 @@ use Rattle.symbols.specs.Table.{symbolsIn}
 use Rattle.accepted.specs.Read.{heapIn}
 use Rattle.judging.specs.Sorts.{metBy, Met, Says, allLeft}
 use Rattle.judging.proofs.Meeting.{oneIf, all-met, met-less}
-use borrow.Author.Needs.{needs}
 use Rattle.judging.proofs.mark_met.Statement.{statement}
 use Rattle.judging.proofs.mark_met.Tie as tie
 
 abbrev Inv-loop : tie.InvT-loop
-Inv-loop book table nodes used order met₀ again₀ met again =     let S = symbolsIn book table in
+Inv-loop book table nodes used order met₀ again₀ met again = let S = symbolsIn book table in
     let h = heapIn S nodes used in
     (length met ≡ length met₀) × ((n : ℕ) → Says (Met S h n) (getD met n 0)) × (again ≡ false → (n : ℕ) → n < length h → metBy S met (getD met n 0) (at h n) ≡ getD met n 0)
 
@@ -25,32 +24,32 @@ loop-holds : tie.Need-loop-holds Inv-loop μ-loop
 loop-holds c = (refl, c .before .before .before .before .before .pre .3, λ q. absurd (let z : _≡_ {A = ℕ} 0 1 = cc in omega arith))
 
 meet-in-order-requires : tie.Need-meet-in-order-requires Inv-loop μ-loop
-meet-in-order-requires c κs =     let l = c .before .before .loop in
+meet-in-order-requires c κs = let l = c .before .before .loop in
     let start = c .before .before .before .before .before .before .before .before in
     (omega (arith, l .inv .0, start .pre .0), start .pre .1, start .pre .2, l .inv .1)
 
 met-pass-requires : tie.Need-met-pass-requires Inv-loop μ-loop
-met-pass-requires c κs =     let l = c .before .before .before .before .before .before .loop in
+met-pass-requires c κs = let l = c .before .before .before .before .before .before .loop in
     let start = c .before .before .before .before .before .before .before .before .before .before .before .before in
     let o = c .before .before .before .meet-in-order .ensures in
     (omega (arith, o .long, l .inv .0, start .pre .0), start .pre .1, start .pre .2, o .says)
 
 loop-less : tie.Need-loop-less Inv-loop μ-loop
-loop-less c =     let a = c .before .before .before .before .before .before .before .before .before .before .before .before .before .before .before .args in
+loop-less c = let a = c .before .before .before .before .before .before .before .before .before .before .before .before .before .before .before .args in
     let l = c .before .before .before .before .before .before .before .before .before .loop in
     let S = symbolsIn (a .book .now) (a .table .now) in
     let p = c .before .before .met-pass in
     met-less S (heapIn S (a .nodes .now) (a .used)) (l .met) _ _ (p .result) (l .again) (c .before .before .before .before .before .before .before .before .loop-test .taken) (c .before .before .before .before .before .before .meet-in-order .ensures) (p .ensures)
 
 loop-again : tie.Need-loop-again Inv-loop μ-loop
-loop-again c =     let p = c .before .before .met-pass in
+loop-again c = let p = c .before .before .met-pass in
     (p .ensures .long ∙ c .before .before .before .before .before .before .meet-in-order .ensures .long ∙ c .before .before .before .before .before .before .before .before .before .loop .inv .0, p .ensures .says, p .ensures .closed)
 
 same-length : tie.Need-same-length Inv-loop μ-loop
 same-length c = c .before .loop .inv .0
 
 returns : tie.Need-returns Inv-loop μ-loop
-returns c =     let start = c .before .before .before .before .before .before .before in
+returns c = let start = c .before .before .before .before .before .before .before in
     let a = start .args in
     let l = c .before .loop in
     let S = symbolsIn (a .book .now) (a .table .now) in

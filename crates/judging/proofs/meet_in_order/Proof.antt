@@ -4,7 +4,6 @@ use mathlib.Core.Logic.{⊎-elim}
 use Prim.Native.Nat.{ℕ, _-_, _<_, _≤_}
 use native.Mathlib.Omega.{arith}
 use lib.ListN.{length, getD}
-use Rattle.nodes.specs.Nodes.{Node}
 use Rattle.symbols.specs.Table.{symbolsIn}
 use Rattle.accepted.specs.Read.{heapIn, nodeIn}
 use Rattle.accepted.proofs.Judged.{heap-at, heap-sized}
@@ -21,7 +20,7 @@ abbrev μ-loop : tie.MeasureT-loop
 μ-loop book table nodes used order met₀ i₀ met i = length order - i
 
 loop-holds : tie.Need-loop-holds Inv-loop μ-loop
-loop-holds c =     let start = c .before .before .before .before .before in
+loop-holds c = let start = c .before .before .before .before .before in
     let a = start .args in
     let S = symbolsIn (a .book .now) (a .table .now) in
     (omega arith, in-order-first S (heapIn S (a .nodes .now) (a .used)) (a .met .now) (start .pre .3))
@@ -57,7 +56,7 @@ loop-less : tie.Need-loop-less Inv-loop μ-loop
 loop-less c = search needs
 
 loop-again : tie.Need-loop-again Inv-loop μ-loop
-loop-again c =     let start = c .before .before .before .before .before .before .before .before .before .before in
+loop-again c = let start = c .before .before .before .before .before .before .before .before .before .before in
     let a = start .args in
     let l = c .before .before .before .before .loop in
     let S = symbolsIn (a .book .now) (a .table .now) in

@@ -4,7 +4,7 @@ use mathlib.Core.Path.{_≡_, sym, ap, _∙_}
 use Prim.Native.Nat.{ℕ, _+_, _-_, _<_, _≤_}
 use native.Mathlib.Omega.{arith}
 use borrow.Author.Count.{below-more}
-use lib.ListN.{length, getD}
+use lib.ListN.{getD}
 use Rattle.nodes.specs.Nodes.{Node}
 use Rattle.symbols.specs.Table.{symbolsIn}
 use Rattle.accepted.specs.Read.{nodeIn, heapIn}
@@ -50,21 +50,21 @@ loop-less : tie.Need-loop-less Inv-loop μ-loop
 loop-less c = search needs
 
 loop-again : tie.Need-loop-again Inv-loop μ-loop
-loop-again c =     let a = c .before .before .before .before .before .before .before .before .before .before .args in
+loop-again c = let a = c .before .before .before .before .before .before .before .before .before .before .args in
     let l = c .before .before .before .before .before .loop in
     let xs = arrowsOf (nodeIn (symbolsIn (a .book .now) (a .table .now)) (a .nodes .now) (l .n)) in
     let rank : getD (a .ranks .now) (l .n) 0 ≡ c .before .before .wide .result = sym (c .before .before .wide .ensures .0 ∙ c .before .before .before .number-of .ensures) in
     (omega arith, below-more _ _ (l .inv .1) (ap (λ (v : ℕ). someOf (ranked (a .ranks .now) (v + 1)) xs) rank ∙ sym (c .before .leads-up .ensures) ∙ c .if1 .left))
 
 returns-2 : tie.Need-returns-2 Inv-loop μ-loop
-returns-2 c =     let a = c .before .before .before .before .before .before .args in
+returns-2 c = let a = c .before .before .before .before .before .before .args in
     let l = c .before .loop in
     let S = symbolsIn (a .book .now) (a .table .now) in
     let m = a .nodes .now in
     let ranks = a .ranks .now in
     λ q. falling (heapIn S m (a .used)) ranks (λ k lt.
-        let inside : k < a .used = omega (arith, heap-sized S m (a .used)) in
-        ap (λ (x : Node). someOf (ranked ranks (getD ranks k 0 + 1)) (arrowsOf x)) (heap-at S m (a .used) k inside) ∙ l .inv .1 k (omega (arith, c .loop-test .left)))
+    let inside : k < a .used = omega (arith, heap-sized S m (a .used)) in
+    ap (λ (x : Node). someOf (ranked ranks (getD ranks k 0 + 1)) (arrowsOf x)) (heap-at S m (a .used) k inside) ∙ l .inv .1 k (omega (arith, c .loop-test .left)))
 
 pub none-rises-spec : {M : Type 1} → statement M
 none-rises-spec =

@@ -11,8 +11,8 @@ use Rattle.accepted.specs.Read.{nodeIn, heapIn}
 use Rattle.accepted.specs.Faults.{arrowsOf}
 use Rattle.accepted.proofs.Judged.{heap-at, heap-sized}
 use Rattle.judging.proofs.Arrows.{nth-arrow}
-use Rattle.judging.proofs.Marking.{not-open}
-use Rattle.judging.proofs.Searched.{Putting, putting-first, putting-on, putting-push, putting-last, is-open, stack-room}
+use Rattle.judging.proofs.Unseen.{not-unseen}
+use Rattle.judging.proofs.Searched.{Putting, putting-first, putting-on, putting-push, putting-last, is-unseen, stack-room}
 use Rattle.judging.proofs.put_arrows.Statement.{statement}
 use Rattle.judging.proofs.put_arrows.Tie as tie
 
@@ -43,8 +43,8 @@ wide-requires : tie.Need-wide-requires Inv-loop μ-loop
 wide-requires c κs = search needs
 
 -- src/lib.rt:209:12
-is-open-requires : tie.Need-is-open-requires Inv-loop μ-loop
-is-open-requires c κs = search needs
+is-unseen-requires : tie.Need-is-unseen-requires Inv-loop μ-loop
+is-unseen-requires c κs = search needs
 
 -- src/lib.rt:210:13
 mul-seen : tie.Need-mul-seen Inv-loop μ-loop
@@ -57,8 +57,8 @@ mul-seen c =
     let h = heapIn S m (a .used) in
     let sized : length h ≡ a .used = heap-sized S m (a .used) in
     let x = c .before .before .before .wide in
-    let test = c .before .is-open in
-    let (inside, other) = is-open (a .used) (x .result) (l .seen) (sym (test .ensures) ∙ c .if1 .taken) in
+    let test = c .before .is-unseen in
+    let (inside, other) = is-unseen (a .used) (x .result) (l .seen) (sym (test .ensures) ∙ c .if1 .taken) in
     let (there, low, room) = stack-room (a .used) (x .result) (l .inv .1) sized (start .pre .0) inside other in
     omega (arith, inside, low, start .pre .2)
 
@@ -73,8 +73,8 @@ slice-write-seen c =
     let h = heapIn S m (a .used) in
     let sized : length h ≡ a .used = heap-sized S m (a .used) in
     let x = c .before .before .before .wide in
-    let test = c .before .is-open in
-    let (inside, other) = is-open (a .used) (x .result) (l .seen) (sym (test .ensures) ∙ c .if1 .taken) in
+    let test = c .before .is-unseen in
+    let (inside, other) = is-unseen (a .used) (x .result) (l .seen) (sym (test .ensures) ∙ c .if1 .taken) in
     let (there, low, room) = stack-room (a .used) (x .result) (l .inv .1) sized (start .pre .0) inside other in
     there
 
@@ -89,8 +89,8 @@ mul-stack c =
     let h = heapIn S m (a .used) in
     let sized : length h ≡ a .used = heap-sized S m (a .used) in
     let x = c .before .before .before .wide in
-    let test = c .before .is-open in
-    let (inside, other) = is-open (a .used) (x .result) (l .seen) (sym (test .ensures) ∙ c .if1 .taken) in
+    let test = c .before .is-unseen in
+    let (inside, other) = is-unseen (a .used) (x .result) (l .seen) (sym (test .ensures) ∙ c .if1 .taken) in
     let (there, low, room) = stack-room (a .used) (x .result) (l .inv .1) sized (start .pre .0) inside other in
     omega (arith, inside, low, start .pre .2)
 
@@ -105,8 +105,8 @@ slice-write-stack c =
     let h = heapIn S m (a .used) in
     let sized : length h ≡ a .used = heap-sized S m (a .used) in
     let x = c .before .before .before .wide in
-    let test = c .before .is-open in
-    let (inside, other) = is-open (a .used) (x .result) (l .seen) (sym (test .ensures) ∙ c .if1 .taken) in
+    let test = c .before .is-unseen in
+    let (inside, other) = is-unseen (a .used) (x .result) (l .seen) (sym (test .ensures) ∙ c .if1 .taken) in
     let (there, low, room) = stack-room (a .used) (x .result) (l .inv .1) sized (start .pre .0) inside other in
     room
 
@@ -121,8 +121,8 @@ add-top c =
     let h = heapIn S m (a .used) in
     let sized : length h ≡ a .used = heap-sized S m (a .used) in
     let x = c .before .before .before .wide in
-    let test = c .before .is-open in
-    let (inside, other) = is-open (a .used) (x .result) (l .seen) (sym (test .ensures) ∙ c .if1 .taken) in
+    let test = c .before .is-unseen in
+    let (inside, other) = is-unseen (a .used) (x .result) (l .seen) (sym (test .ensures) ∙ c .if1 .taken) in
     let (there, low, room) = stack-room (a .used) (x .result) (l .inv .1) sized (start .pre .0) inside other in
     omega (arith, inside, low, start .pre .2)
 
@@ -145,7 +145,7 @@ loop-again c =
     let h = heapIn S m (a .used) in
     let sized : length h ≡ a .used = heap-sized S m (a .used) in
     let x = c .before .before .before .wide in
-    let test = c .before .is-open in
+    let test = c .before .is-unseen in
     let many = c .before .before .before .before .before .before .before .arrows-at in
     let node : at h (a .from) ≡ nodeIn S m (a .from) = heap-at S m (a .used) (a .from) (start .pre .1) in
     let count : length (arrowsOf (at h (a .from))) ≡ many .result = ap (λ (y : Node). length (arrowsOf y)) node ∙ sym (many .ensures .0) in
@@ -155,12 +155,12 @@ loop-again c =
       omega (arith, c .before .before .before .before .before .loop-test .taken),
       ⊎-elim
           (λ w.
-          let (inside, other) = is-open (a .used) (x .result) (l .seen) (sym (test .ensures) ∙ w .0 .taken) in
+          let (inside, other) = is-unseen (a .used) (x .result) (l .seen) (sym (test .ensures) ∙ w .0 .taken) in
           let (there, low, room) = stack-room (a .used) (x .result) (l .inv .1) sized (start .pre .0) inside other in
           rw (w .1, w .2, w .3)
           (subst (λ (v : ℕ). Putting h (a .from) (a .seen .now) (a .stack .now) (a .height) (set (l .seen) (x .result) 1) (set (l .stack) (l .top) v) (l .top + 1) (l .j + 1)) (x .ensures .0)
           (putting-push (l .inv .1) (x .result) arrow within (omega (arith, inside, sized)) there room other)))
-          (λ w. rw (w .1, w .2, w .3) (putting-on (l .inv .1) (x .result) arrow (λ lt. not-open (a .used) (x .result) (l .seen) (sym (test .ensures) ∙ w .0 .left) (omega (arith, lt, sized)))))
+          (λ w. rw (w .1, w .2, w .3) (putting-on (l .inv .1) (x .result) arrow (λ lt. not-unseen (a .used) (x .result) (l .seen) (sym (test .ensures) ∙ w .0 .left) (omega (arith, lt, sized)))))
           (c .if1 .came),
     )
 
@@ -196,7 +196,7 @@ put-arrows-spec =
     cast-slot
     arrow-at-requires
     wide-requires
-    is-open-requires
+    is-unseen-requires
     mul-seen
     slice-write-seen
     mul-stack

@@ -1,6 +1,6 @@
 -- `walk_all` ends.
 use mathlib.Core.Path.{_≡_, refl, _∙_}
-use Prim.Native.Nat.{ℕ, _≤_}
+use Prim.Native.Nat.{ℕ}
 use lib.ListN.{length, length-replicate}
 use Rattle.limits.specs.Sizes.{mostNodes}
 use borrow.Author.Needs.{needs}
@@ -8,7 +8,7 @@ use Rattle.judging.proofs.walk.walk_all.Statement.{statement}
 use Rattle.judging.proofs.walk.walk_all.Tie as tie
 
 abbrev Inv-loop : tie.InvT-loop
-Inv-loop book table nodes used order₀ ranks₀ next₀ first₀ path₀ held₀ w₀ steps₀ order ranks next first path held w steps =     (length order ≡ length order₀) × (length ranks ≡ length ranks₀)
+Inv-loop book table nodes used order₀ ranks₀ next₀ first₀ path₀ held₀ w₀ steps₀ order ranks next first path held w steps = (length order ≡ length order₀) × (length ranks ≡ length ranks₀)
     × (length next ≡ mostNodes) × (length first ≡ mostNodes) × (length path ≡ mostNodes) × (length held ≡ mostNodes)
 
 abbrev μ-loop : tie.MeasureT-loop
@@ -51,7 +51,7 @@ loop-less : tie.Need-loop-less Inv-loop μ-loop
 loop-less c = search needs
 
 loop-again : tie.Need-loop-again Inv-loop μ-loop
-loop-again c =     let kept = c .before .before .before .before .before .before .before .before .before .before .step .kept in
+loop-again c = let kept = c .before .before .before .before .before .before .before .before .before .before .step .kept in
     let l = c .before .before .before .before .before .before .before .before .before .before .before .before .before .before .before .before .before .before .loop .inv in
     (kept .1 .1 .1 .1 .1 .1 .1 .1 .1 .0 ∙ l .0, kept .1 .1 .1 .1 .1 .1 .1 .1 .1 .1 .0 ∙ l .1, kept .1 .1 .1 .1 .1 .0 ∙ l .2, kept .1 .1 .1 .1 .1 .1 .0 ∙ l .3, kept .1 .1 .1 .1 .1 .1 .1 .0 ∙ l .4, kept .1 .1 .1 .1 .1 .1 .1 .1 .0 ∙ l .5)
 
