@@ -26,14 +26,17 @@ module _ (book table m : List ℕ) (n : ℕ) where
   unfolding nodeBy arrowsOf
   apply-many is = rw is (length-firsts (length (argumentsOf (symbolsIn book table) (labelIn m n))) (arrowIn m n))
 
-  pub known-many : (kind f r : ℕ) → kind ≡ kindIn m n → kind ≡ 0 → f ≡ labelIn m n → f < length table → r ≡ length (symbolIn book (getD table f 0) .arguments) → r ≡ many
+  pub known-many : (kind f r : ℕ) → kind ≡ kindIn m n → kind ≡ 0 → f ≡ labelIn m n → f < length table → r ≡ length
+      (symbolIn book (getD table f 0) .arguments) → r ≡ many
   known-many kind f r k is l lt e =
-      e ∙ ap (λ (x : Symbol). length (x .arguments)) (sym (symbol-there book table f lt)) ∙ ap (λ (g : ℕ). length (argumentsOf (symbolsIn book table) g)) l ∙ sym (apply-many (sym k ∙ is))
+      e ∙ ap (λ (x : Symbol). length (x .arguments)) (sym (symbol-there book table f lt)) ∙ ap
+      (λ (g : ℕ). length (argumentsOf (symbolsIn book table) g)) l ∙ sym (apply-many (sym k ∙ is))
 
   pub unknown-many : (kind f : ℕ) → kind ≡ kindIn m n → kind ≡ 0 → f ≡ labelIn m n → length table ≤ f → 0 ≡ many
   unfolding noSymbol
   unknown-many kind f k is l past =
-      sym (apply-many (sym k ∙ is) ∙ ap (λ (x : Symbol). length (x .arguments)) (List·getD-eq-default (symbolsIn book table) noSymbol (omega (arith, l, past, as-many book table))))
+      sym (apply-many (sym k ∙ is) ∙ ap (λ (x : Symbol). length (x .arguments))
+      (List·getD-eq-default (symbolsIn book table) noSymbol (omega (arith, l, past, as-many book table))))
 
   pub choice-many : (kind : ℕ) → kind ≡ kindIn m n → kind ≡ 1 → 2 ≡ many
   unfolding nodeBy arrowsOf
@@ -93,7 +96,8 @@ one-more bad (x ∷ (y ∷ xs)) zero lt = refl
 one-more bad (x ∷ xs) (suc j) lt = one-more bad xs j (omega arith)
 
 -- one that is not bad, and one that is
-pub step-none : (bad : ℕ → Bool) (xs : List ℕ) (j x : ℕ) → j < length xs → getD xs j 0 ≡ x → bad x ≡ false → someOf bad (drop j xs) ≡ someOf bad (drop (j + 1) xs)
+pub step-none : (bad : ℕ → Bool) (xs : List ℕ) (j x : ℕ) → j < length xs → getD xs j 0 ≡ x → bad x ≡ false → someOf bad (drop j xs) ≡ someOf bad
+    (drop (j + 1) xs)
 step-none bad xs j x lt is e =
     let here : bad (getD xs j 0) ≡ false = ap bad is ∙ e in
     let next : suc j ≡ j + 1 = omega arith in

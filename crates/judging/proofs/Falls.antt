@@ -26,7 +26,8 @@ module _ (h : Heap) (ranks : List ℕ) where
   -- no arrow of node n leads to a rank of at least so much
   lower : (n least x : ℕ) → someOf (ranked ranks least) (arrowsOf (at h n)) ≡ false → Arrow x (at h n) → getD ranks x 0 < least
   unfolding ranked
-  lower n least x e a = leb-false least (getD ranks x 0) (not-passed _ (λ q. not-both _ e (some-is (ranked ranks least) (arrowsOf (at h n)) (arrow-in (at h n) a) q)))
+  lower n least x e a = leb-false least (getD ranks x 0)
+      (not-passed _ (λ q. not-both _ e (some-is (ranked ranks least) (arrowsOf (at h n)) (arrow-in (at h n) a) q)))
 
   pub falling : ((n : ℕ) → n < length h → someOf (ranked ranks (getD ranks n 0 + 1)) (arrowsOf (at h n)) ≡ false) → Falling h ranks
   falling none = record { falls = λ n x a. let lt = lower n (getD ranks n 0 + 1) x (none n (arrow-there h n a)) a in omega arith }

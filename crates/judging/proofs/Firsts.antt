@@ -19,6 +19,9 @@ first-no bad i left e = ap (λ (b : Bool). elim b [ true ↦ i | false ↦ first
 
 -- ---- a loop that has come to number n of `used`
 
+pub first-all : (bad : ℕ → Bool) (used : ℕ) → firstOf bad 0 used ≡ firstOf bad 0 (used - 0)
+first-all bad used = ap (firstOf bad 0) (let z : used ≡ used - 0 = omega arith in z)
+
 module _ (bad : ℕ → Bool) (used n : ℕ) where
   one-less : n < used → used - n ≡ suc (used - (n + 1))
   one-less lt = omega arith

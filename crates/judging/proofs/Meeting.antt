@@ -161,7 +161,16 @@ says-on f (Says.more {s} {t} o p q) = Says.more o (f s p) (f t q)
 module _ (S : Symbols) (small : (f : ℕ) → sortOf S f < 256) (h : Heap) where
   -- along an arrow
   met-on : {n t s : ℕ} → ((m : ℕ) → Meets h t m → Meets h n m) → Met S h t s → Met S h n s
-  met-on on x = record { node = x .node; symbol = x .symbol; arguments = x .arguments; meets = on (x .node) (x .meets); is = x .is; known = x .known; sorted = x .sorted }
+  met-on on x = record {
+    node = x .node;
+    symbol = x .symbol;
+    arguments = x .arguments;
+    meets = on (x .node)
+        (x .meets);
+    is = x .is;
+    known = x .known;
+    sorted = x .sorted;
+  }
 
   module _ (met : List ℕ) (says : (n : ℕ) → Says (Met S h n) (getD met n 0)) where
     -- what is said anew of node n is so
@@ -170,7 +179,8 @@ module _ (S : Symbols) (small : (f : ℕ) → sortOf S f < 256) (h : Heap) where
     anew-says n (apply f xs) is = by (ltb f (length S)) refl
       where
         by : (b : Bool) → ltb f (length S) ≡ b → Says (Met S h n) (elim b [ true ↦ joined (getD met n 0) (suc (sortOf S f)) | false ↦ getD met n 0 ])
-        by true q = join-says (says n) (Says.one (small f) (record { node = n; symbol = f; arguments = xs; meets = Meets.here; is = is; known = ltb-true _ _ q; sorted = refl }))
+        by true q = join-says (says n) (Says.one (small f)
+            (record { node = n; symbol = f; arguments = xs; meets = Meets.here; is = is; known = ltb-true _ _ q; sorted = refl }))
         by false q = says n
     anew-says n (choice i l r) is =
         join-says (join-says (says n) (says-on (λ s. met-on (λ m p. Meets.left is p)) (says l))) (says-on (λ s. met-on (λ m p. Meets.right is p)) (says r))
@@ -192,7 +202,8 @@ module _ (S : Symbols) (small : (f : ℕ) → sortOf S f < 256) (h : Heap) where
     anew-less n (forward t) other = join-less (getD met n 0) (getD met t 0) (says-bound (says t)) (says-bound (says n)) other
 
     -- where nothing changes, all that is met is said
-    pub closed-met : ((n : ℕ) → n < length h → metBy S met (getD met n 0) (at h n) ≡ getD met n 0) → {n m f : ℕ} {xs : List ℕ} → Meets h n m → at h m ≡ apply f xs
+    pub closed-met : ((n : ℕ) → n < length h → metBy S met (getD met n 0) (at h n) ≡ getD met n 0) → {n m f : ℕ} {xs : List ℕ} → Meets h n m
+        → at h m ≡ apply f xs
         → f < length S → Within (sortOf S f) (getD met n 0)
     unfolding metBy
     closed-met closed {n} {f = f} {xs} Meets.here is known =
@@ -204,11 +215,13 @@ module _ (S : Symbols) (small : (f : ℕ) → sortOf S f < 256) (h : Heap) where
         join-covers (getD met n 0) (getD met t 0) (sortOf S f) (rw (e, metBy) at (closed n (there h n (forward≢fail e)))) (closed-met closed p is known)
     closed-met closed {n} {f = f} (Meets.left {l = l} {r} e p) is known =
         join-covers (getD met n 0) (getD met l 0) (sortOf S f)
-        (join-both (getD met n 0) (getD met l 0) (getD met r 0) (says-bound (says n)) (says-bound (says l)) (says-bound (says r)) (rw (e, metBy) at (closed n (there h n (choice≢fail e)))) .0)
+        (join-both (getD met n 0) (getD met l 0) (getD met r 0) (says-bound (says n)) (says-bound (says l)) (says-bound (says r))
+        (rw (e, metBy) at (closed n (there h n (choice≢fail e)))) .0)
         (closed-met closed p is known)
     closed-met closed {n} {f = f} (Meets.right {l = l} {r} e p) is known =
         join-covers (getD met n 0) (getD met r 0) (sortOf S f)
-        (join-both (getD met n 0) (getD met l 0) (getD met r 0) (says-bound (says n)) (says-bound (says l)) (says-bound (says r)) (rw (e, metBy) at (closed n (there h n (choice≢fail e)))) .1)
+        (join-both (getD met n 0) (getD met l 0) (getD met r 0) (says-bound (says n)) (says-bound (says l)) (says-bound (says r))
+        (rw (e, metBy) at (closed n (there h n (choice≢fail e)))) .1)
         (closed-met closed p is known)
 
 -- ---- one pass
@@ -242,7 +255,8 @@ module _ (S : Symbols) (small : (f : ℕ) → sortOf S f < 256) (h : Heap) (now 
     where
       by : Dec (k ≡ n) → Says (Met S h k) (getD (set now n v) k 0)
       by (yes q) =
-          subst (λ (j : ℕ). Says (Met S h j) (getD (set now n v) j 0)) (sym q) (rw (getD-set-same now n v 0 inside, is) (anew-says S small h now says n (at h n) refl))
+          subst (λ (j : ℕ). Says (Met S h j) (getD (set now n v) j 0)) (sym q)
+          (rw (getD-set-same now n v 0 inside, is) (anew-says S small h now says n (at h n) refl))
       by (no q) = rw (getD-set-other now n k v 0 q) (says k)
 
   set-fewer : n < length h → (v ≡ getD now n 0 → ⊥) → allLeft (length h) (set now n v) < allLeft (length h) now
@@ -255,7 +269,8 @@ module _ (S : Symbols) (small : (f : ℕ) → sortOf S f < 256) (h : Heap) (now 
 pub in-order-first : (S : Symbols) (h : Heap) (met : List ℕ) → ((k : ℕ) → Says (Met S h k) (getD met k 0)) → MetInOrder S h met met
 in-order-first S h met says = record { long = refl; says = says; least = omega arith }
 
-pub in-order-mark : (S : Symbols) (small : (f : ℕ) → sortOf S f < 256) {h : Heap} {before now : List ℕ} (n v : ℕ) → MetInOrder S h before now → n < length h → n < length now
+pub in-order-mark : (S : Symbols) (small : (f : ℕ) → sortOf S f < 256) {h : Heap} {before now : List ℕ} (n v : ℕ) → MetInOrder S h before now
+    → n < length h → n < length now
     → v ≡ metBy S now (getD now n 0) (at h n) → (v ≡ getD now n 0 → ⊥) → MetInOrder S h before (set now n v)
 in-order-mark S small {h} {before} {now} n v p lt inside is other = record {
   long = length-set now n v ∙ p .long;
@@ -276,7 +291,8 @@ pub record Meeting (S : Symbols) (h : Heap) (before now : List ℕ) (changed : B
   pub same : changed ≡ false → now ≡ before
   pub closed : changed ≡ false → (k : ℕ) → n ≤ k → k < length h → metBy S now (getD now k 0) (at h k) ≡ getD now k 0
 
-pub meeting-first : (S : Symbols) (h : Heap) (met : List ℕ) → length h ≤ length met → ((k : ℕ) → Says (Met S h k) (getD met k 0)) → Meeting S h met met false (length h)
+pub meeting-first : (S : Symbols) (h : Heap) (met : List ℕ) → length h ≤ length met → ((k : ℕ) → Says (Met S h k) (getD met k 0))
+    → Meeting S h met met false (length h)
 meeting-first S h met room says = record {
   down = omega arith;
   room = room;
@@ -288,7 +304,8 @@ meeting-first S h met room says = record {
   closed = λ q k le lt. absurd (omega arith);
 }
 
-module _ (S : Symbols) (small : (f : ℕ) → sortOf S f < 256) {h : Heap} {before now : List ℕ} {changed : Bool} {n : ℕ} (p : Meeting S h before now changed (suc n)) where
+module _ (S : Symbols) (small : (f : ℕ) → sortOf S f < 256) {h : Heap} {before now : List ℕ} {changed : Bool} {n : ℕ}
+    (p : Meeting S h before now changed (suc n)) where
   -- nothing new is met from node n
   pub meeting-on : metBy S now (getD now n 0) (at h n) ≡ getD now n 0 → Meeting S h before now changed n
   meeting-on here = record {
@@ -344,7 +361,8 @@ abbrev pub oneIf : Bool → ℕ
 oneIf true = 1
 oneIf false = 0
 
-pub met-less : (S : Symbols) (h : Heap) (first before after : List ℕ) (changed again : Bool) → again ≡ true → MetInOrder S h first before → MetPassed S h before after changed
+pub met-less : (S : Symbols) (h : Heap) (first before after : List ℕ) (changed again : Bool) → again ≡ true → MetInOrder S h first before
+    → MetPassed S h before after changed
     → allLeft (length h) after + oneIf changed < allLeft (length h) first + oneIf again
 met-less S h first before after true again is o p = rw is (omega (arith, p .fewer refl, o .least))
 met-less S h first before after false again is o p = rw (is, p .same refl) (omega (arith, o .least))

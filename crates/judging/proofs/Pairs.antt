@@ -36,7 +36,8 @@ pair-up : (made w i : ℕ) → badPair made w (suc i) ≡ badPair (made - 1) (w 
 unfolding badPair
 pair-up made w i =
     let l : bitOf w (2 * suc i) ≡ bitOf (w / 4) (2 * i) = ap (bitOf w) (let z : 2 * suc i ≡ 2 + 2 * i = omega arith in z) ∙ bit-up w (2 * i) in
-    let r : bitOf w (2 * suc i + 1) ≡ bitOf (w / 4) (2 * i + 1) = ap (bitOf w) (let z : 2 * suc i + 1 ≡ 2 + (2 * i + 1) = omega arith in z) ∙ bit-up w (2 * i + 1) in
+    let r : bitOf w (2 * suc i + 1) ≡ bitOf (w / 4) (2 * i + 1) = ap (bitOf w) (let z : 2 * suc i + 1 ≡ 2 + (2 * i + 1) = omega arith in z) ∙ bit-up w
+    (2 * i + 1) in
     ap₂ (λ (x y : Bool). (x && y) || leb made (suc i) && (x || y)) l r
     ∙ ap (λ (z : Bool). (bitOf (w / 4) (2 * i) && bitOf (w / 4) (2 * i + 1)) || z && (bitOf (w / 4) (2 * i) || bitOf (w / 4) (2 * i + 1))) (leb-up made i)
 
@@ -196,7 +197,8 @@ some-free : (d w : ℕ) → w < 4 ^ d → both d w ≡ 0 → someFrom (badPair 0
 unfolding someFrom
 some-free zero w lt none = sym (ap not (eq-eqb w 0 (omega arith)))
 some-free (suc d) w lt none =
-    next 0 w d ∙ ap (λ (b : Bool). badPair 0 w 0 || b) (some-free d (w / 4) (quarter-less d w lt) (none-next d w none)) ∙ by (ℕ-discrete (w % 4) 0) (ℕ-discrete (w / 4) 0)
+    next 0 w d ∙ ap (λ (b : Bool). badPair 0 w 0 || b) (some-free d (w / 4) (quarter-less d w lt) (none-next d w none)) ∙ by (ℕ-discrete (w % 4) 0)
+    (ℕ-discrete (w / 4) 0)
   where
     by : Dec (w % 4 ≡ 0) → Dec (w / 4 ≡ 0) → (badPair 0 w 0 || not (eqb (w / 4) 0)) ≡ not (eqb w 0)
     by (yes e) (yes q) = rw (free-clear d w none e, eq-eqb (w / 4) 0 q, eq-eqb w 0 (let z : w ≡ 0 = omega arith in z)) refl
@@ -219,7 +221,8 @@ unfolding someFrom
 none-past zero made w none le = refl
 none-past (suc d) zero w none le = absurd (omega arith)
 none-past (suc d) (suc made) w none le =
-    next-made made w d ∙ ap (λ (b : Bool). b || someFrom (badPair made (w / 4)) 0 d) (made-pair d w none made) ∙ none-past d made (w / 4) (none-next d w none) (omega arith)
+    next-made made w d ∙ ap (λ (b : Bool). b || someFrom (badPair made (w / 4)) 0 d) (made-pair d w none made) ∙ none-past d made (w / 4)
+    (none-next d w none) (omega arith)
 
 -- the number that the code has
 pub low-bits : lowBits 32 ≡ 6148914691236517205
@@ -237,9 +240,11 @@ module _ (k : ℕ) (words : List ℕ) (q : ℕ) where
       let l : isSet words (2 * i) ≡ bitOf (getD words q 0) (2 * r) =
       ap₂ (λ (a b : ℕ). eqb (getD words a 0 / 2 ^ b % 2) 1) (let z : 2 * i / 64 ≡ q = omega arith in z) (let z : 2 * i % 64 ≡ 2 * r = omega arith in z) in
       let h : isSet words (2 * i + 1) ≡ bitOf (getD words q 0) (2 * r + 1) =
-      ap₂ (λ (a b : ℕ). eqb (getD words a 0 / 2 ^ b % 2) 1) (let z : (2 * i + 1) / 64 ≡ q = omega arith in z) (let z : (2 * i + 1) % 64 ≡ 2 * r + 1 = omega arith in z) in
+      ap₂ (λ (a b : ℕ). eqb (getD words a 0 / 2 ^ b % 2) 1) (let z : (2 * i + 1) / 64 ≡ q = omega arith in z)
+      (let z : (2 * i + 1) % 64 ≡ 2 * r + 1 = omega arith in z) in
       ap₂ (λ (x y : Bool). (x && y) || leb k i && (x || y)) l h
-      ∙ ap (λ (z : Bool). (bitOf (getD words q 0) (2 * r) && bitOf (getD words q 0) (2 * r + 1)) || z && (bitOf (getD words q 0) (2 * r) || bitOf (getD words q 0) (2 * r + 1)))
+      ∙ ap (λ (z : Bool). (bitOf (getD words q 0) (2 * r) && bitOf (getD words q 0) (2 * r + 1)) || z &&
+      (bitOf (getD words q 0) (2 * r) || bitOf (getD words q 0) (2 * r + 1)))
       (order (decLe k i))
     where
       order : Dec (k ≤ 32 * q + r) → leb k (32 * q + r) ≡ leb (k - 32 * q) r
@@ -259,7 +264,8 @@ unfolding someFrom
 some-join bad i zero b = ap₂ (someFrom bad) (let z : i ≡ i + 0 = omega arith in z) (let z : 0 + b ≡ b = omega arith in z)
 some-join bad i (suc a) b =
     ap (someFrom bad i) (let z : suc a + b ≡ suc (a + b) = omega arith in z)
-    ∙ ap (λ (x : Bool). bad i || x) (some-join bad (suc i) a b ∙ ap (λ (j : ℕ). someFrom bad (suc i) a || someFrom bad j b) (let z : suc i + a ≡ i + suc a = omega arith in z))
+    ∙ ap (λ (x : Bool). bad i || x) (some-join bad (suc i) a b ∙ ap (λ (j : ℕ). someFrom bad (suc i) a || someFrom bad j b)
+    (let z : suc i + a ≡ i + suc a = omega arith in z))
     ∙ sym (or-assoc (bad i) (someFrom bad (suc i) a) (someFrom bad (i + suc a) b))
   where
     or-assoc : (x y z : Bool) → ((x || y) || z) ≡ (x || (y || z))

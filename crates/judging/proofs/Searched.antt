@@ -47,7 +47,8 @@ push {h} {n} {P} {seen} {stack} {top} x lt inside room path s = record {
 
     stacked : (i : ℕ) → Dec (i ≡ top) → i < suc top → Seen (set seen x 1) (getD (set stack top x) i 0)
     stacked i (yes q) b =
-        subst (λ (z : ℕ). Seen (set seen x 1) z) (sym (ap (λ (k : ℕ). getD (set stack top x) k 0) q ∙ getD-set-same stack top x 0 room)) (getD-set-same seen x 1 0 inside)
+        subst (λ (z : ℕ). Seen (set seen x 1) z) (sym (ap (λ (k : ℕ). getD (set stack top x) k 0) q ∙ getD-set-same stack top x 0 room))
+        (getD-set-same seen x 1 0 inside)
     stacked i (no q) b =
         subst (λ (z : ℕ). Seen (set seen x 1) z) (sym (getD-set-other stack top i x 0 q))
         (see-more seen x (getD stack i 0) inside (s .stacked i (elim (decLt i top) [ yes le ↦ le | no ge ↦ absurd (q (omega arith)) ])))
@@ -108,7 +109,8 @@ module _ {h : Heap} {from : ℕ} {seen stack : List ℕ} {height : ℕ} {seen′
     goes = p .goes;
   }
     where
-      by : (i : ℕ) → Dec (i ≡ j) → i < j + 1 → i < length (arrowsOf (at h from)) → getD (arrowsOf (at h from)) i 0 < length h → Seen seen′ (getD (arrowsOf (at h from)) i 0)
+      by : (i : ℕ) → Dec (i ≡ j) → i < j + 1 → i < length (arrowsOf (at h from)) → getD (arrowsOf (at h from)) i 0 < length h → Seen seen′
+          (getD (arrowsOf (at h from)) i 0)
       by i (yes q) lt b c =
           let same : getD (arrowsOf (at h from)) i 0 ≡ x = ap (λ (k : ℕ). getD (arrowsOf (at h from)) k 0) q ∙ is in
           subst (Seen seen′) (sym same) (here (subst (λ (z : ℕ). z < length h) same c))
@@ -125,7 +127,8 @@ module _ {h : Heap} {from : ℕ} {seen stack : List ℕ} {height : ℕ} {seen′
     first = λ i lt b c. by i (ℕ-discrete i j) lt b c;
     goes = λ n from-n s.
         subst (Searching h n (λ y. y ≡ from) (set seen′ x 1) (set stack′ top x)) (let z : suc top ≡ top + 1 = omega arith in z)
-        (push x inside there room (step from-n (in-arrow (at h from) (subst (λ (y : ℕ). In y (arrowsOf (at h from))) is (arrow-at (arrowsOf (at h from)) j lt)))) (p .goes n from-n s));
+        (push x inside there room (step from-n (in-arrow (at h from)
+        (subst (λ (y : ℕ). In y (arrowsOf (at h from))) is (arrow-at (arrowsOf (at h from)) j lt)))) (p .goes n from-n s));
   }
     where
       by : (i : ℕ) → Dec (i ≡ j) → i < j + 1 → i < length (arrowsOf (at h from)) → getD (arrowsOf (at h from)) i 0 < length h
@@ -136,7 +139,8 @@ module _ {h : Heap} {from : ℕ} {seen stack : List ℕ} {height : ℕ} {seen′
           see-more seen′ x (getD (arrowsOf (at h from)) i 0) there (p .first i (elim (decLt i j) [ yes le ↦ le | no ge ↦ absurd (q (omega arith)) ]) b c)
 
 -- all of them
-pub putting-last : {h : Heap} {from : ℕ} {seen stack : List ℕ} {height : ℕ} {seen′ stack′ : List ℕ} {top j : ℕ} → Putting h from seen stack height seen′ stack′ top j
+pub putting-last : {h : Heap} {from : ℕ} {seen stack : List ℕ} {height : ℕ} {seen′ stack′ : List ℕ} {top j : ℕ}
+    → Putting h from seen stack height seen′ stack′ top j
     → length (arrowsOf (at h from)) ≤ j → Put h from seen stack height seen′ stack′ top
 putting-last {h} {from} {seen′ = seen′} {stack′} {top} {j} p le = record {
   same-seen = p .same-seen;
@@ -228,7 +232,8 @@ module _ (h : Heap) (n : ℕ) (seen stack : List ℕ) (s : Searching h n (λ y. 
   not-seen-returns lt other = sym (not-passed (returns h n) (λ e. other (reached-seen begun (returns-path h n e) lt)))
 
 -- while a node is not seen, there is room on the stack
-pub stack-room : {h : Heap} {from : ℕ} {seen stack : List ℕ} {height : ℕ} {seen′ stack′ : List ℕ} {top j : ℕ} (used x : ℕ) → Putting h from seen stack height seen′ stack′ top j
+pub stack-room : {h : Heap} {from : ℕ} {seen stack : List ℕ} {height : ℕ} {seen′ stack′ : List ℕ} {top j : ℕ} (used x : ℕ)
+    → Putting h from seen stack height seen′ stack′ top j
     → length h ≡ used → Roomy used seen stack height → x < used → (Seen seen′ x → ⊥) → (x < length seen′) × (top < used) × (top < length stack′)
 stack-room {h} {seen = seen} {height = height} {seen′ = seen′} {top = top} used x p sized roomy lt other =
     let there : x < length seen′ = omega (arith, p .same-seen, roomy .long) in
@@ -247,7 +252,8 @@ unseen-most (suc n) seen = by (eqb (getD seen n 0) 1) (unseen-most n seen)
     by true le = omega arith
     by false le = omega arith
 
-module _ {h : Heap} {from : ℕ} {seen stack : List ℕ} {height : ℕ} {seen′ stack′ : List ℕ} {top : ℕ} (used : ℕ) (p : Put h from seen stack height seen′ stack′ top) (sized : length h ≡ used) where
+module _ {h : Heap} {from : ℕ} {seen stack : List ℕ} {height : ℕ} {seen′ stack′ : List ℕ} {top : ℕ} (used : ℕ)
+    (p : Put h from seen stack height seen′ stack′ top) (sized : length h ≡ used) where
   -- the sum stays
   pub put-sum : top + unseen used seen′ ≡ height + unseen used seen
   put-sum = subst (λ (k : ℕ). top + unseen k seen′ ≡ height + unseen k seen) sized (p .sum)
@@ -257,7 +263,8 @@ module _ {h : Heap} {from : ℕ} {seen stack : List ℕ} {height : ℕ} {seen′
   put-room r = record { long = omega (arith, p .same-seen, r .long); high = omega (arith, p .same-stack, r .high); count = omega (arith, put-sum, r .count) }
 
 -- what the code answers in the end
-pub search-says : (h : Heap) (n : ℕ) (seen stack : List ℕ) (v : ℕ) → Searching h n (λ y. ⊥) seen stack 0 → AllSeen h seen n → n < length h → v ≡ getD seen n 0 → eqb v 1 ≡ returns h n
+pub search-says : (h : Heap) (n : ℕ) (seen stack : List ℕ) (v : ℕ) → Searching h n (λ y. ⊥) seen stack 0 → AllSeen h seen n → n < length h
+    → v ≡ getD seen n 0 → eqb v 1 ≡ returns h n
 search-says h n seen stack v s all lt is = by (ℕ-discrete v 1)
   where
     by : Dec (v ≡ 1) → eqb v 1 ≡ returns h n

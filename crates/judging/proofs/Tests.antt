@@ -23,7 +23,15 @@ module _ (S : Symbols) (h : Heap) (met : List ℕ) (all : AllMet S h met) (n s :
       by : (getD met n 0 ≡ 0) ⊎ (getD met n 0 ≡ suc s) → Misfit S h n s → ⊥
       by said x =
           go (sortOf S (x .symbol)) (x .other) said
-          (all .all n (sortOf S (x .symbol)) (record { node = x .node; symbol = x .symbol; arguments = x .arguments; meets = x .meets; is = x .is; known = x .known; sorted = refl }))
+          (all .all n (sortOf S (x .symbol)) (record {
+            node = x .node;
+            symbol = x .symbol;
+            arguments = x .arguments;
+            meets = x .meets;
+            is = x .is;
+            known = x .known;
+            sorted = refl;
+          }))
         where
           go : (t : ℕ) → t ≢ s → (getD met n 0 ≡ 0) ⊎ (getD met n 0 ≡ suc s) → (getD met n 0 ≡ suc t) ⊎ (getD met n 0 ≡ several) → ⊥
           go t o (inl q) (inl r) = omega (arith, q, r)

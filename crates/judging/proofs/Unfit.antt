@@ -30,7 +30,8 @@ module _ (book : List ℕ) (bytes : (i : ℕ) → getD book i 0 < 256) where
     where
       by : Dec (i < k) → getD (take k (drop p book)) i 0 < 256
       by (yes lt) = rw (getD-take k (drop p book) i 0 lt, getD-drop p book i 0) (bytes (p + i))
-      by (no ge) = rw (List·getD-eq-default (take k (drop p book)) 0 (let le : length (take k (drop p book)) ≤ i = omega (arith, length-take k (drop p book)) in le)) (omega arith)
+      by (no ge) = rw (List·getD-eq-default (take k (drop p book)) 0
+          (let le : length (take k (drop p book)) ≤ i = omega (arith, length-take k (drop p book)) in le)) (omega arith)
 
   pub sort-byte : (table : List ℕ) (f : ℕ) → sortOf (symbolsIn book table) f < 256
   unfolding symbolIn noSymbol
@@ -38,15 +39,20 @@ module _ (book : List ℕ) (bytes : (i : ℕ) → getD book i 0 < 256) where
     where
       by : Dec (f < length table) → sortOf (symbolsIn book table) f < 256
       by (yes lt) = subst (λ (x : Symbol). x .sort < 256) (sym (symbol-there book table f lt)) (bytes (getD table f 0 + 2))
-      by (no ge) = subst (λ (x : Symbol). x .sort < 256) (sym (List·getD-eq-default (symbolsIn book table) noSymbol (let le : length (symbolsIn book table) ≤ f = omega (arith, as-many book table) in le))) (omega arith)
+      by (no ge) = subst (λ (x : Symbol). x .sort < 256)
+          (sym (List·getD-eq-default (symbolsIn book table) noSymbol
+          (let le : length (symbolsIn book table) ≤ f = omega (arith, as-many book table) in le))) (omega arith)
 
   pub argument-bytes : (table : List ℕ) (f i : ℕ) → getD (argumentsOf (symbolsIn book table) f) i 0 < 256
   unfolding symbolIn noSymbol
   argument-bytes table f i = by (decLt f (length table))
     where
       by : Dec (f < length table) → getD (argumentsOf (symbolsIn book table) f) i 0 < 256
-      by (yes lt) = subst (λ (x : Symbol). getD (x .arguments) i 0 < 256) (sym (symbol-there book table f lt)) (part-bytes (getD book (getD table f 0) 0 - 2) (getD table f 0 + 3) i)
-      by (no ge) = subst (λ (x : Symbol). getD (x .arguments) i 0 < 256) (sym (List·getD-eq-default (symbolsIn book table) noSymbol (let le : length (symbolsIn book table) ≤ f = omega (arith, as-many book table) in le))) (omega arith)
+      by (yes lt) = subst (λ (x : Symbol). getD (x .arguments) i 0 < 256) (sym (symbol-there book table f lt))
+          (part-bytes (getD book (getD table f 0) 0 - 2) (getD table f 0 + 3) i)
+      by (no ge) = subst (λ (x : Symbol). getD (x .arguments) i 0 < 256)
+          (sym (List·getD-eq-default (symbolsIn book table) noSymbol
+          (let le : length (symbolsIn book table) ≤ f = omega (arith, as-many book table) in le))) (omega arith)
 
 -- ---- one argument
 
@@ -85,7 +91,8 @@ module _ (S : Symbols) (h : Heap) (met : List ℕ) (all : AllMet S h met) where
   wrong-at k small fail = refl
   wrong-at k small (forward m) = refl
 
-module _ (S : Symbols) (k : ℕ) (m : List ℕ) (used : ℕ) (met : List ℕ) (all : AllMet S (heapIn S m used) met) (small : (f i : ℕ) → getD (argumentsOf S f) i 0 < 256)
+module _ (S : Symbols) (k : ℕ) (m : List ℕ) (used : ℕ) (met : List ℕ) (all : AllMet S (heapIn S m used) met)
+    (small : (f i : ℕ) → getD (argumentsOf S f) i 0 < 256)
     (n : ℕ) (lt : n < used) where
   -- THE TEST of a node: what the code sees, or a circle
   pub bad-node : badNode S k m (heapIn S m used) n

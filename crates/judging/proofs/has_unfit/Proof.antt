@@ -51,9 +51,12 @@ returns c = let a = c .before .before .before .before .before .before .before .b
     let inside : l .j < length ss = omega arith in
     let x = c .before .before .before .before .arrow-at in
     let arrow = getD-firsts (length ss) (arrowIn (a .nodes .now) (a .n)) (l .j) 0 inside ∙ sym (x .ensures) in
-    let bad = ap (λ (v : ℕ). unfit v (getD ss (l .j) 0)) (sym (c .before .before .before .number-of .ensures)) ∙ sym (c .before .is-unfit .ensures) ∙ c .if1 .taken in
-    subst (λ (s : List ℕ). true ≡ someUnfit met (firsts (length s) (arrowIn (a .nodes .now) (a .n))) s) (c .before .before .before .before .before .before .before .arguments-of .ensures .0)
-    (sym (l .inv .1 ∙ unfit-step-some met xs ss (l .j) (x .result) (getD ss (l .j) 0) (omega (arith, length-firsts (length ss) (arrowIn (a .nodes .now) (a .n)))) inside arrow refl bad))
+    let bad = ap (λ (v : ℕ). unfit v (getD ss (l .j) 0)) (sym (c .before .before .before .number-of .ensures)) ∙ sym (c .before .is-unfit .ensures)
+    ∙ c .if1 .taken in
+    subst (λ (s : List ℕ). true ≡ someUnfit met (firsts (length s) (arrowIn (a .nodes .now) (a .n))) s)
+    (c .before .before .before .before .before .before .before .arguments-of .ensures .0)
+    (sym (l .inv .1 ∙ unfit-step-some met xs ss (l .j) (x .result) (getD ss (l .j) 0)
+    (omega (arith, length-firsts (length ss) (arrowIn (a .nodes .now) (a .n)))) inside arrow refl bad))
 
 add-j : tie.Need-add-j Inv-loop μ-loop
 add-j c = search needs
@@ -70,8 +73,12 @@ loop-again c = let a = c .before .before .before .before .before .before .before
     let inside : l .j < length ss = omega arith in
     let x = c .before .before .before .before .arrow-at in
     let arrow = getD-firsts (length ss) (arrowIn (a .nodes .now) (a .n)) (l .j) 0 inside ∙ sym (x .ensures) in
-    let fine = ap (λ (v : ℕ). unfit v (getD ss (l .j) 0)) (sym (c .before .before .before .number-of .ensures)) ∙ sym (c .before .is-unfit .ensures) ∙ c .if1 .left in
-    (omega arith, l .inv .1 ∙ unfit-step-none met xs ss (l .j) (x .result) (getD ss (l .j) 0) (omega (arith, length-firsts (length ss) (arrowIn (a .nodes .now) (a .n)))) inside arrow refl fine)
+    let fine = ap (λ (v : ℕ). unfit v (getD ss (l .j) 0)) (sym (c .before .before .before .number-of .ensures)) ∙ sym (c .before .is-unfit .ensures)
+    ∙ c .if1 .left in (
+      omega arith,
+      l .inv .1 ∙ unfit-step-none met xs ss (l .j) (x .result) (getD ss (l .j) 0)
+          (omega (arith, length-firsts (length ss) (arrowIn (a .nodes .now) (a .n)))) inside arrow refl fine,
+    )
 
 returns-2 : tie.Need-returns-2 Inv-loop μ-loop
 returns-2 c = let a = c .before .before .before .before .before .before .before .args in

@@ -46,8 +46,11 @@ returns-2 : tie.Need-returns-2 Inv-loop μ-loop
 returns-2 c = let a = c .before .before .before .before .before .before .before .before .args in
     let l = c .before .before .before .before .loop in
     let words = a .e .words in
-    let bad = ap (λ (k : ℕ). someFrom (badPair k (getD words (l .i) 0)) 0 32) (sym (c .before .before .between .ensures)) ∙ sym (c .before .is-bad-word .ensures) ∙ c .if2 .taken in
-    sym (entry-words (a .choices) (a .used) (a .e) (omega (arith, c .before .before .before .before .before .before .before .wide .ensures .0, c .before .before .before .before .before .before .if1 .left)) ∙ l .inv .1
+    let bad = ap (λ (k : ℕ). someFrom (badPair k (getD words (l .i) 0)) 0 32) (sym (c .before .before .between .ensures)) ∙ sym
+    (c .before .is-bad-word .ensures) ∙ c .if2 .taken in
+    sym (entry-words (a .choices) (a .used) (a .e)
+    (omega (arith, c .before .before .before .before .before .before .before .wide .ensures .0, c .before .before .before .before .before .before .if1 .left))
+    ∙ l .inv .1
     ∙ word-bad (a .choices) words (l .i) (c .before .before .before .loop-test .taken) bad)
 
 add-i : tie.Need-add-i Inv-loop μ-loop
@@ -60,13 +63,16 @@ loop-again : tie.Need-loop-again Inv-loop μ-loop
 loop-again c = let a = c .before .before .before .before .before .before .before .before .args in
     let l = c .before .before .before .before .loop in
     let words = a .e .words in
-    let fine = ap (λ (k : ℕ). someFrom (badPair k (getD words (l .i) 0)) 0 32) (sym (c .before .before .between .ensures)) ∙ sym (c .before .is-bad-word .ensures) ∙ c .if2 .left in
+    let fine = ap (λ (k : ℕ). someFrom (badPair k (getD words (l .i) 0)) 0 32) (sym (c .before .before .between .ensures)) ∙ sym
+    (c .before .is-bad-word .ensures) ∙ c .if2 .left in
     (omega arith, l .inv .1 ∙ word-fine (a .choices) words (l .i) (c .before .before .before .loop-test .taken) fine)
 
 returns-3 : tie.Need-returns-3 Inv-loop μ-loop
 returns-3 c = let a = c .before .before .before .before .before .args in
     let l = c .before .loop in
-    sym (entry-words (a .choices) (a .used) (a .e) (omega (arith, c .before .before .before .before .wide .ensures .0, c .before .before .before .if1 .left)) ∙ l .inv .1 ∙ no-word (a .choices) (a .e .words) (l .i) (c .loop-test .left))
+    sym (entry-words (a .choices) (a .used) (a .e)
+    (omega (arith, c .before .before .before .before .wide .ensures .0, c .before .before .before .if1 .left)) ∙ l .inv .1 ∙ no-word (a .choices)
+    (a .e .words) (l .i) (c .loop-test .left))
 
 pub is-bad-entry-spec : {M : Type 1} → statement M
 is-bad-entry-spec =

@@ -30,7 +30,8 @@ returns c = let start = c .before .before .before .before .before .before .befor
     let m = a .nodes .now in
     let h = heapIn S m (a .used) in
     let ranks = a .ranks .now in
-    let rank : getD ranks (a .n) 0 ≡ c .before .before .wide .result = sym (c .before .before .wide .ensures .0 ∙ c .before .before .before .number-of .ensures) in
+    let rank : getD ranks (a .n) 0 ≡ c .before .before .wide .result = sym
+    (c .before .before .wide .ensures .0 ∙ c .before .before .before .number-of .ensures) in
     let none = ap (λ (x : Node). someOf (ranked ranks (getD ranks (a .n) 0)) (arrowsOf x)) (heap-at S m (a .used) (a .n) (start .pre .0))
     ∙ ap (λ (v : ℕ). someOf (ranked ranks v) (arrowsOf (nodeIn S m (a .n)))) rank ∙ sym (c .before .leads-up .ensures) ∙ not-true _ (c .if2 .taken) in
     sym (lower-returns h ranks (start .pre .2 (c .before .before .before .before .if1 .taken)) (a .n) none)

@@ -13,7 +13,8 @@ slice-aggregate-comes-back-2 : tie.Need-slice-aggregate-comes-back-2
 slice-aggregate-comes-back-2 c = search needs
 
 comes-back-requires : tie.Need-comes-back-requires
-comes-back-requires c κs = let start = c .before .before .before .before .before in (omega (arith, start .pre .1), omega (arith, start .pre .1), start .pre .0, start .pre .1, none-seen mostNodes)
+comes-back-requires c κs = let start = c .before .before .before .before .before in
+    (omega (arith, start .pre .1), omega (arith, start .pre .1), start .pre .0, start .pre .1, none-seen mostNodes)
 
 returns : tie.Need-returns
 returns c = search needs

@@ -14,7 +14,8 @@ use Rattle.judging.proofs.leads_outside.Statement.{statement}
 use Rattle.judging.proofs.leads_outside.Tie as tie
 
 abbrev Inv-loop : tie.InvT-loop
-Inv-loop book table nodes used n many j₀ j = (j ≤ many) × (someOf (leb used) (arrowsOf (nodeIn (symbolsIn book table) nodes n)) ≡ someOf (leb used) (drop j (arrowsOf (nodeIn (symbolsIn book table) nodes n))))
+Inv-loop book table nodes used n many j₀ j = (j ≤ many) ×
+    (someOf (leb used) (arrowsOf (nodeIn (symbolsIn book table) nodes n)) ≡ someOf (leb used) (drop j (arrowsOf (nodeIn (symbolsIn book table) nodes n))))
 
 abbrev μ-loop : tie.MeasureT-loop
 μ-loop book table nodes used n many j₀ j = many - j
@@ -40,7 +41,8 @@ returns c = let a = c .before .before .before .before .before .before .before .b
     let xs = arrowsOf (nodeIn (symbolsIn (a .book .now) (a .table .now)) (a .nodes .now) (a .n)) in
     let inside : l .j < length xs = omega (arith, c .before .before .before .before .before .arrows-at .ensures .0) in
     let x = c .before .wide in
-    let arrow = nth-arrow (a .book .now) (a .table .now) (a .nodes .now) (a .n) (l .j) inside ∙ sym (c .before .before .arrow-at .ensures) ∙ sym (x .ensures .0) in
+    let arrow = nth-arrow (a .book .now) (a .table .now) (a .nodes .now) (a .n) (l .j) inside ∙ sym (c .before .before .arrow-at .ensures) ∙ sym
+    (x .ensures .0) in
     sym (l .inv .1 ∙ step-some (leb (a .used)) xs (l .j) (x .result) inside arrow (le-leb (a .used) (x .result) (c .if1 .taken)))
 
 add-j : tie.Need-add-j Inv-loop μ-loop
@@ -55,7 +57,8 @@ loop-again c = let a = c .before .before .before .before .before .before .before
     let xs = arrowsOf (nodeIn (symbolsIn (a .book .now) (a .table .now)) (a .nodes .now) (a .n)) in
     let inside : l .j < length xs = omega (arith, c .before .before .before .before .before .arrows-at .ensures .0) in
     let x = c .before .wide in
-    let arrow = nth-arrow (a .book .now) (a .table .now) (a .nodes .now) (a .n) (l .j) inside ∙ sym (c .before .before .arrow-at .ensures) ∙ sym (x .ensures .0) in
+    let arrow = nth-arrow (a .book .now) (a .table .now) (a .nodes .now) (a .n) (l .j) inside ∙ sym (c .before .before .arrow-at .ensures) ∙ sym
+    (x .ensures .0) in
     (omega arith, l .inv .1 ∙ step-none (leb (a .used)) xs (l .j) (x .result) inside arrow (lt-leb (a .used) (x .result) (c .if1 .left)))
 
 returns-2 : tie.Need-returns-2 Inv-loop μ-loop

@@ -14,7 +14,9 @@ use Rattle.judging.proofs.leads_up.Statement.{statement}
 use Rattle.judging.proofs.leads_up.Tie as tie
 
 abbrev Inv-loop : tie.InvT-loop
-Inv-loop book table nodes ranks least n many j₀ j = (j ≤ many) × (someOf (ranked ranks least) (arrowsOf (nodeIn (symbolsIn book table) nodes n)) ≡ someOf (ranked ranks least) (drop j (arrowsOf (nodeIn (symbolsIn book table) nodes n))))
+Inv-loop book table nodes ranks least n many j₀ j = (j ≤ many) ×
+    (someOf (ranked ranks least) (arrowsOf (nodeIn (symbolsIn book table) nodes n)) ≡ someOf (ranked ranks least)
+    (drop j (arrowsOf (nodeIn (symbolsIn book table) nodes n))))
 
 abbrev μ-loop : tie.MeasureT-loop
 μ-loop book table nodes ranks least n many j₀ j = many - j
@@ -45,7 +47,8 @@ returns c = let a = c .before .before .before .before .before .before .before .b
     let x = c .before .before .before .arrow-at in
     let arrow = nth-arrow (a .book .now) (a .table .now) (a .nodes .now) (a .n) (l .j) inside ∙ sym (x .ensures) in
     let rank = c .before .wide .ensures .0 ∙ c .before .before .number-of .ensures in
-    sym (l .inv .1 ∙ step-some (ranked (a .ranks .now) (a .least)) xs (l .j) (x .result) inside arrow (is-ranked (a .ranks .now) (a .least) (x .result) (omega (arith, rank, c .if1 .taken))))
+    sym (l .inv .1 ∙ step-some (ranked (a .ranks .now) (a .least)) xs (l .j) (x .result) inside arrow
+    (is-ranked (a .ranks .now) (a .least) (x .result) (omega (arith, rank, c .if1 .taken))))
 
 add-j : tie.Need-add-j Inv-loop μ-loop
 add-j c = search needs
@@ -60,8 +63,11 @@ loop-again c = let a = c .before .before .before .before .before .before .before
     let inside : l .j < length xs = omega (arith, c .before .before .before .before .before .before .arrows-at .ensures .0) in
     let x = c .before .before .before .arrow-at in
     let arrow = nth-arrow (a .book .now) (a .table .now) (a .nodes .now) (a .n) (l .j) inside ∙ sym (x .ensures) in
-    let rank = c .before .wide .ensures .0 ∙ c .before .before .number-of .ensures in
-    (omega arith, l .inv .1 ∙ step-none (ranked (a .ranks .now) (a .least)) xs (l .j) (x .result) inside arrow (not-ranked (a .ranks .now) (a .least) (x .result) (omega (arith, rank, c .if1 .left))))
+    let rank = c .before .wide .ensures .0 ∙ c .before .before .number-of .ensures in (
+      omega arith,
+      l .inv .1 ∙ step-none (ranked (a .ranks .now) (a .least)) xs (l .j) (x .result) inside arrow
+          (not-ranked (a .ranks .now) (a .least) (x .result) (omega (arith, rank, c .if1 .left))),
+    )
 
 returns-2 : tie.Need-returns-2 Inv-loop μ-loop
 returns-2 c = let a = c .before .before .before .before .before .before .before .args in

@@ -15,7 +15,8 @@ use Rattle.judging.proofs.mark_met.Tie as tie
 abbrev Inv-loop : tie.InvT-loop
 Inv-loop book table nodes used order met₀ again₀ met again = let S = symbolsIn book table in
     let h = heapIn S nodes used in
-    (length met ≡ length met₀) × ((n : ℕ) → Says (Met S h n) (getD met n 0)) × (again ≡ false → (n : ℕ) → n < length h → metBy S met (getD met n 0) (at h n) ≡ getD met n 0)
+    (length met ≡ length met₀) × ((n : ℕ) → Says (Met S h n) (getD met n 0)) ×
+    (again ≡ false → (n : ℕ) → n < length h → metBy S met (getD met n 0) (at h n) ≡ getD met n 0)
 
 abbrev μ-loop : tie.MeasureT-loop
 μ-loop book table nodes used order met₀ again₀ met again = allLeft (length (heapIn (symbolsIn book table) nodes used)) met + oneIf again
@@ -39,11 +40,17 @@ loop-less c = let a = c .before .before .before .before .before .before .before 
     let l = c .before .before .before .before .before .before .before .before .before .loop in
     let S = symbolsIn (a .book .now) (a .table .now) in
     let p = c .before .before .met-pass in
-    met-less S (heapIn S (a .nodes .now) (a .used)) (l .met) _ _ (p .result) (l .again) (c .before .before .before .before .before .before .before .before .loop-test .taken) (c .before .before .before .before .before .before .meet-in-order .ensures) (p .ensures)
+    met-less S (heapIn S (a .nodes .now) (a .used)) (l .met) _ _ (p .result) (l .again)
+    (c .before .before .before .before .before .before .before .before .loop-test .taken)
+    (c .before .before .before .before .before .before .meet-in-order .ensures) (p .ensures)
 
 loop-again : tie.Need-loop-again Inv-loop μ-loop
-loop-again c = let p = c .before .before .met-pass in
-    (p .ensures .long ∙ c .before .before .before .before .before .before .meet-in-order .ensures .long ∙ c .before .before .before .before .before .before .before .before .before .loop .inv .0, p .ensures .says, p .ensures .closed)
+loop-again c = let p = c .before .before .met-pass in (
+  p .ensures .long ∙ c .before .before .before .before .before .before .meet-in-order .ensures .long
+      ∙ c .before .before .before .before .before .before .before .before .before .loop .inv .0,
+  p .ensures .says,
+  p .ensures .closed,
+)
 
 same-length : tie.Need-same-length Inv-loop μ-loop
 same-length c = c .before .loop .inv .0

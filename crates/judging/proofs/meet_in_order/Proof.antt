@@ -41,13 +41,15 @@ mul-if2 : tie.Need-mul-if2 Inv-loop μ-loop
 mul-if2 c = search needs
 
 slice-read-if2 : tie.Need-slice-read-if2 Inv-loop μ-loop
-slice-read-if2 c = omega (arith, c .before .before .before .before .before .before .before .loop .inv .1 .long, c .before .before .before .before .before .before .before .before .before .before .before .before .before .pre .0, c .before .before .before .if1 .taken)
+slice-read-if2 c = let looped = c .before .before .before .before .before .before .before in omega (arith, looped .loop .inv .1 .long, looped .before .before .before .before .before .before .pre .0, c .before .before .before .if1 .taken)
 
 mul-met : tie.Need-mul-met Inv-loop μ-loop
 mul-met c = search needs
 
 slice-write-met : tie.Need-slice-write-met Inv-loop μ-loop
-slice-write-met c = omega (arith, c .before .before .before .before .before .before .before .before .loop .inv .1 .long, c .before .before .before .before .before .before .before .before .before .before .before .before .before .before .pre .0, c .before .before .before .before .if1 .taken)
+slice-write-met c =
+    let looped = c .before .before .before .before .before .before .before .before in
+    omega (arith, looped .loop .inv .1 .long, looped .before .before .before .before .before .before .pre .0, c .before .before .before .before .if1 .taken)
 
 add-i : tie.Need-add-i Inv-loop μ-loop
 add-i c = search needs
@@ -72,7 +74,8 @@ loop-again c = let start = c .before .before .before .before .before .before .be
           w .2 .ensures ∙ ap (λ (x : ℕ). metBy S (l .met) (getD (l .met) x 0) (nodeIn S m x)) (sym (n .ensures .0)) in
           let said = is ∙ ap (metBy S (l .met) (getD (l .met) (n .result) 0)) (sym (heap-at S m (a .used) (n .result) lt)) in
           rw (w .5)
-          (in-order-mark S (start .pre .2) (n .result) (w .2 .result) (l .inv .1) (omega (arith, lt, sized)) (omega (arith, lt, start .pre .0, l .inv .1 .long)) said (w .4 .taken)))
+          (in-order-mark S (start .pre .2) (n .result) (w .2 .result) (l .inv .1) (omega (arith, lt, sized))
+          (omega (arith, lt, start .pre .0, l .inv .1 .long)) said (w .4 .taken)))
           (λ v. ⊎-elim (λ w. rw (w .5) (l .inv .1)) (λ w. rw (w .1) (l .inv .1)) v)
           (c .if1 .came),
     )

@@ -55,8 +55,10 @@ returns c =
     let kind = c .before .before .before .before .before .before .before .kind-at in
     let f = c .before .before .before .before .wide in
     subst (λ (o : ℕ). c .join .result ≡ metBy (symbolsIn bs table) met o (nodeIn (symbolsIn bs table) m (a .n))) (own .ensures)
-    (said-known bs table m met (a .n) (own .result) (kind .result) (f .result) (c .before .widened .result) (c .join .result) (kind .ensures) (c .before .before .before .before .before .before .if1 .taken)
-    (f .ensures .0 ∙ c .before .before .before .before .before .label-at .ensures) (omega arith) (c .before .widened .ensures .0 ∙ c .before .before .sort-of .ensures) (c .join .ensures))
+    (said-known bs table m met (a .n) (own .result) (kind .result) (f .result) (c .before .widened .result) (c .join .result) (kind .ensures)
+    (c .before .before .before .before .before .before .if1 .taken)
+    (f .ensures .0 ∙ c .before .before .before .before .before .label-at .ensures) (omega arith)
+    (c .before .widened .ensures .0 ∙ c .before .before .sort-of .ensures) (c .join .ensures))
 
 -- src/lib.rt:145:9
 returns-2 : tie.Need-returns-2
@@ -70,7 +72,8 @@ returns-2 c =
     let kind = c .before .before .before .before .kind-at in
     let f = c .before .wide in
     subst (λ (o : ℕ). own .result ≡ metBy (symbolsIn bs table) met o (nodeIn (symbolsIn bs table) m (a .n))) (own .ensures)
-    (said-unknown bs table m met (a .n) (own .result) (kind .result) (f .result) (kind .ensures) (c .before .before .before .if1 .taken) (f .ensures .0 ∙ c .before .before .label-at .ensures) (omega arith))
+    (said-unknown bs table m met (a .n) (own .result) (kind .result) (f .result) (kind .ensures) (c .before .before .before .if1 .taken)
+    (f .ensures .0 ∙ c .before .before .label-at .ensures) (omega arith))
 
 -- src/lib.rt:148:32
 arrow-at-requires : tie.Need-arrow-at-requires
@@ -109,8 +112,10 @@ returns-3 c =
     let left = c .before .before .before .before .number-of2 in
     let right = c .before .before .number-of3 in
     subst (λ (o : ℕ). c .join3 .result ≡ metBy (symbolsIn bs table) met o (nodeIn (symbolsIn bs table) m (a .n))) (own .ensures)
-    (said-choice bs table m met (a .n) (own .result) (kind .result) (left .result) (right .result) (c .before .join2 .result) 0 (c .join3 .result) (kind .ensures) (c .before .before .before .before .before .before .if3 .taken)
-    (left .ensures ∙ ap (λ (x : ℕ). getD met x 0) (c .before .before .before .before .before .arrow-at .ensures)) (right .ensures ∙ ap (λ (x : ℕ). getD met x 0) (c .before .before .before .arrow-at2 .ensures))
+    (said-choice bs table m met (a .n) (own .result) (kind .result) (left .result) (right .result) (c .before .join2 .result) 0 (c .join3 .result)
+    (kind .ensures) (c .before .before .before .before .before .before .if3 .taken)
+    (left .ensures ∙ ap (λ (x : ℕ). getD met x 0) (c .before .before .before .before .before .arrow-at .ensures))
+    (right .ensures ∙ ap (λ (x : ℕ). getD met x 0) (c .before .before .before .arrow-at2 .ensures))
     (c .before .join2 .ensures) (c .join3 .ensures))
 
 -- src/lib.rt:153:38

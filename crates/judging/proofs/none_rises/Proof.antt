@@ -17,7 +17,8 @@ use Rattle.judging.proofs.none_rises.Statement.{statement}
 use Rattle.judging.proofs.none_rises.Tie as tie
 
 abbrev Inv-loop : tie.InvT-loop
-Inv-loop book table nodes used ranks n₀ n = (n ≤ used) × ((k : ℕ) → k < n → someOf (ranked ranks (getD ranks k 0 + 1)) (arrowsOf (nodeIn (symbolsIn book table) nodes k)) ≡ false)
+Inv-loop book table nodes used ranks n₀ n = (n ≤ used) ×
+    ((k : ℕ) → k < n → someOf (ranked ranks (getD ranks k 0 + 1)) (arrowsOf (nodeIn (symbolsIn book table) nodes k)) ≡ false)
 
 abbrev μ-loop : tie.MeasureT-loop
 μ-loop book table nodes used ranks n₀ n = used - n
@@ -53,8 +54,12 @@ loop-again : tie.Need-loop-again Inv-loop μ-loop
 loop-again c = let a = c .before .before .before .before .before .before .before .before .before .before .args in
     let l = c .before .before .before .before .before .loop in
     let xs = arrowsOf (nodeIn (symbolsIn (a .book .now) (a .table .now)) (a .nodes .now) (l .n)) in
-    let rank : getD (a .ranks .now) (l .n) 0 ≡ c .before .before .wide .result = sym (c .before .before .wide .ensures .0 ∙ c .before .before .before .number-of .ensures) in
-    (omega arith, below-more _ _ (l .inv .1) (ap (λ (v : ℕ). someOf (ranked (a .ranks .now) (v + 1)) xs) rank ∙ sym (c .before .leads-up .ensures) ∙ c .if1 .left))
+    let rank : getD (a .ranks .now) (l .n) 0 ≡ c .before .before .wide .result = sym
+    (c .before .before .wide .ensures .0 ∙ c .before .before .before .number-of .ensures) in (
+      omega arith,
+      below-more _ _ (l .inv .1) (ap (λ (v : ℕ). someOf (ranked (a .ranks .now) (v + 1)) xs) rank ∙ sym (c .before .leads-up .ensures)
+          ∙ c .if1 .left),
+    )
 
 returns-2 : tie.Need-returns-2 Inv-loop μ-loop
 returns-2 c = let a = c .before .before .before .before .before .before .args in
@@ -64,7 +69,8 @@ returns-2 c = let a = c .before .before .before .before .before .before .args in
     let ranks = a .ranks .now in
     λ q. falling (heapIn S m (a .used)) ranks (λ k lt.
     let inside : k < a .used = omega (arith, heap-sized S m (a .used)) in
-    ap (λ (x : Node). someOf (ranked ranks (getD ranks k 0 + 1)) (arrowsOf x)) (heap-at S m (a .used) k inside) ∙ l .inv .1 k (omega (arith, c .loop-test .left)))
+    ap (λ (x : Node). someOf (ranked ranks (getD ranks k 0 + 1)) (arrowsOf x)) (heap-at S m (a .used) k inside) ∙ l .inv .1 k
+    (omega (arith, c .loop-test .left)))
 
 pub none-rises-spec : {M : Type 1} → statement M
 none-rises-spec =

@@ -17,7 +17,8 @@ use Rattle.judging.proofs.put_arrows.Statement.{statement}
 use Rattle.judging.proofs.put_arrows.Tie as tie
 
 abbrev Inv-loop : tie.InvT-loop
-Inv-loop book table nodes used from seen₀ stack₀ height many j₀ top₀ seen stack j top = (j ≤ many) × Putting (heapIn (symbolsIn book table) nodes used) from seen₀ stack₀ height seen stack top j
+Inv-loop book table nodes used from seen₀ stack₀ height many j₀ top₀ seen stack j top = (j ≤ many) × Putting
+    (heapIn (symbolsIn book table) nodes used) from seen₀ stack₀ height seen stack top j
 
 abbrev μ-loop : tie.MeasureT-loop
 μ-loop book table nodes used from seen₀ stack₀ height many j₀ top₀ seen stack j top = many - j
@@ -28,7 +29,11 @@ arrows-at-requires c κs = search needs
 
 -- src/lib.rt:205:5
 loop-holds : tie.Need-loop-holds Inv-loop μ-loop
-loop-holds c = let a = c .before .before .before .before .before .before .args in (omega arith, putting-first (heapIn (symbolsIn (a .book .now) (a .table .now)) (a .nodes .now) (a .used)) (a .from) (a .seen .now) (a .stack .now) (a .height))
+loop-holds c = let a = c .before .before .before .before .before .before .args in (
+  omega arith,
+  putting-first (heapIn (symbolsIn (a .book .now) (a .table .now)) (a .nodes .now) (a .used)) (a .from) (a .seen .now) (a .stack .now)
+      (a .height),
+)
 
 -- src/lib.rt:206:20
 cast-slot : tie.Need-cast-slot Inv-loop μ-loop
@@ -151,16 +156,19 @@ loop-again c =
     let count : length (arrowsOf (at h (a .from))) ≡ many .result = ap (λ (y : Node). length (arrowsOf y)) node ∙ sym (many .ensures .0) in
     let within : l .j < length (arrowsOf (at h (a .from))) = omega (arith, count, c .before .before .before .before .before .loop-test .taken) in
     let arrow : getD (arrowsOf (at h (a .from))) (l .j) 0 ≡ x .result =
-    ap (λ (y : Node). getD (arrowsOf y) (l .j) 0) node ∙ nth-arrow (a .book .now) (a .table .now) m (a .from) (l .j) (omega (arith, within, count, many .ensures .0)) ∙ sym (c .before .before .before .before .arrow-at .ensures) ∙ sym (x .ensures .0) in (
+    ap (λ (y : Node). getD (arrowsOf y) (l .j) 0) node ∙ nth-arrow (a .book .now) (a .table .now) m (a .from) (l .j)
+    (omega (arith, within, count, many .ensures .0)) ∙ sym (c .before .before .before .before .arrow-at .ensures) ∙ sym (x .ensures .0) in (
       omega (arith, c .before .before .before .before .before .loop-test .taken),
       ⊎-elim
           (λ w.
           let (inside, other) = is-unseen (a .used) (x .result) (l .seen) (sym (test .ensures) ∙ w .0 .taken) in
           let (there, low, room) = stack-room (a .used) (x .result) (l .inv .1) sized (start .pre .0) inside other in
           rw (w .1, w .2, w .3)
-          (subst (λ (v : ℕ). Putting h (a .from) (a .seen .now) (a .stack .now) (a .height) (set (l .seen) (x .result) 1) (set (l .stack) (l .top) v) (l .top + 1) (l .j + 1)) (x .ensures .0)
+          (subst (λ (v : ℕ). Putting h (a .from) (a .seen .now) (a .stack .now) (a .height) (set (l .seen) (x .result) 1) (set (l .stack) (l .top) v)
+          (l .top + 1) (l .j + 1)) (x .ensures .0)
           (putting-push (l .inv .1) (x .result) arrow within (omega (arith, inside, sized)) there room other)))
-          (λ w. rw (w .1, w .2, w .3) (putting-on (l .inv .1) (x .result) arrow (λ lt. not-unseen (a .used) (x .result) (l .seen) (sym (test .ensures) ∙ w .0 .left) (omega (arith, lt, sized)))))
+          (λ w. rw (w .1, w .2, w .3) (putting-on (l .inv .1) (x .result) arrow
+          (λ lt. not-unseen (a .used) (x .result) (l .seen) (sym (test .ensures) ∙ w .0 .left) (omega (arith, lt, sized)))))
           (c .if1 .came),
     )
 
@@ -182,7 +190,8 @@ returns c =
     let m = a .nodes .now in
     let h = heapIn S m (a .used) in
     let many = c .before .before .arrows-at in
-    let count : length (arrowsOf (at h (a .from))) ≡ many .result = ap (λ (y : Node). length (arrowsOf y)) (heap-at S m (a .used) (a .from) (start .pre .1)) ∙ sym (many .ensures .0) in
+    let count : length (arrowsOf (at h (a .from))) ≡ many .result = ap (λ (y : Node). length (arrowsOf y))
+    (heap-at S m (a .used) (a .from) (start .pre .1)) ∙ sym (many .ensures .0) in
     putting-last (l .inv .1) (omega (arith, count, c .loop-test .left))
 
 pub put-arrows-spec : {M : Type 1} → statement M

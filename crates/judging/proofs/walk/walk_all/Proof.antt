@@ -8,7 +8,8 @@ use Rattle.judging.proofs.walk.walk_all.Statement.{statement}
 use Rattle.judging.proofs.walk.walk_all.Tie as tie
 
 abbrev Inv-loop : tie.InvT-loop
-Inv-loop book table nodes used order₀ ranks₀ next₀ first₀ path₀ held₀ w₀ steps₀ order ranks next first path held w steps = (length order ≡ length order₀) × (length ranks ≡ length ranks₀)
+Inv-loop book table nodes used order₀ ranks₀ next₀ first₀ path₀ held₀ w₀ steps₀ order ranks next first path held w steps =
+    (length order ≡ length order₀) × (length ranks ≡ length ranks₀)
     × (length next ≡ mostNodes) × (length first ≡ mostNodes) × (length path ≡ mostNodes) × (length held ≡ mostNodes)
 
 abbrev μ-loop : tie.MeasureT-loop
@@ -39,10 +40,14 @@ wide-requires : tie.Need-wide-requires Inv-loop μ-loop
 wide-requires c κs = search needs
 
 same-length : tie.Need-same-length Inv-loop μ-loop
-same-length c = c .before .before .before .before .before .before .before .before .before .before .step .kept .1 .1 .1 .1 .1 .1 .1 .1 .1 .0 ∙ c .before .before .before .before .before .before .before .before .before .before .before .before .before .before .before .before .before .before .loop .inv .0
+same-length c =
+    let stepped = c .before .before .before .before .before .before .before .before .before .before in
+    stepped .step .kept .1 .1 .1 .1 .1 .1 .1 .1 .1 .0 ∙ stepped .before .before .before .before .before .before .before .before .loop .inv .0
 
 same-length-2 : tie.Need-same-length-2 Inv-loop μ-loop
-same-length-2 c = c .before .before .before .before .before .before .before .before .before .before .step .kept .1 .1 .1 .1 .1 .1 .1 .1 .1 .1 .0 ∙ c .before .before .before .before .before .before .before .before .before .before .before .before .before .before .before .before .before .before .loop .inv .1
+same-length-2 c =
+    let stepped = c .before .before .before .before .before .before .before .before .before .before in
+    stepped .step .kept .1 .1 .1 .1 .1 .1 .1 .1 .1 .1 .0 ∙ stepped .before .before .before .before .before .before .before .before .loop .inv .1
 
 returns : tie.Need-returns Inv-loop μ-loop
 returns c = search needs
@@ -51,9 +56,18 @@ loop-less : tie.Need-loop-less Inv-loop μ-loop
 loop-less c = search needs
 
 loop-again : tie.Need-loop-again Inv-loop μ-loop
-loop-again c = let kept = c .before .before .before .before .before .before .before .before .before .before .step .kept in
-    let l = c .before .before .before .before .before .before .before .before .before .before .before .before .before .before .before .before .before .before .loop .inv in
-    (kept .1 .1 .1 .1 .1 .1 .1 .1 .1 .0 ∙ l .0, kept .1 .1 .1 .1 .1 .1 .1 .1 .1 .1 .0 ∙ l .1, kept .1 .1 .1 .1 .1 .0 ∙ l .2, kept .1 .1 .1 .1 .1 .1 .0 ∙ l .3, kept .1 .1 .1 .1 .1 .1 .1 .0 ∙ l .4, kept .1 .1 .1 .1 .1 .1 .1 .1 .0 ∙ l .5)
+loop-again c =
+    let stepped = c .before .before .before .before .before .before .before .before .before .before in
+    let kept = stepped .step .kept in
+    let l = stepped .before .before .before .before .before .before .before .before .loop .inv in (
+      kept .1 .1 .1 .1 .1 .1 .1 .1 .1 .0 ∙ l .0,
+      kept .1 .1 .1 .1 .1 .1 .1 .1 .1 .1 .0 ∙ l .1,
+      kept .1 .1 .1 .1 .1 .0 ∙ l .2,
+      kept .1 .1 .1 .1 .1 .1 .0
+          ∙ l .3,
+      kept .1 .1 .1 .1 .1 .1 .1 .0 ∙ l .4,
+      kept .1 .1 .1 .1 .1 .1 .1 .1 .0 ∙ l .5,
+    )
 
 same-length-3 : tie.Need-same-length-3 Inv-loop μ-loop
 same-length-3 c = c .before .loop .inv .0
