@@ -41,7 +41,9 @@ mul-if2 : tie.Need-mul-if2 Inv-loop μ-loop
 mul-if2 c = search needs
 
 slice-read-if2 : tie.Need-slice-read-if2 Inv-loop μ-loop
-slice-read-if2 c = let looped = c .before .before .before .before .before .before .before in omega (arith, looped .loop .inv .1 .long, looped .before .before .before .before .before .before .pre .0, c .before .before .before .if1 .taken)
+slice-read-if2 c =
+    let looped = c .before .before .before .before .before .before .before in
+    omega (arith, looped .loop .inv .1 .long, looped .before .before .before .before .before .before .pre .0, c .before .before .before .if1 .taken)
 
 mul-met : tie.Need-mul-met Inv-loop μ-loop
 mul-met c = search needs

@@ -57,7 +57,9 @@ slice-read-if1 c = let l = c .before .before .before .before .loop in omega
 
 -- src/lib.rt:169:13
 mul-met : tie.Need-mul-met Inv-loop μ-loop
-mul-met c = let looped = c .before .before .before .before .before in omega (arith, looped .loop .inv .0, looped .before .before .before .before .before .pre .1)
+mul-met c =
+    let looped = c .before .before .before .before .before in
+    omega (arith, looped .loop .inv .0, looped .before .before .before .before .before .pre .1)
 
 -- src/lib.rt:169:13
 slice-write-met : tie.Need-slice-write-met Inv-loop μ-loop
