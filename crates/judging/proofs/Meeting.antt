@@ -15,7 +15,7 @@ use Rattle.nodes.specs.Nodes.{Node, apply, choice, fail, forward, Heap, at}
 use Rattle.sorts.specs.Sorts.{sortOf}
 use Rattle.rewriting.proofs.Heaps.{there, apply≢fail, forward≢fail, choice≢fail}
 use Rattle.accepted.specs.Accepted.{Meets}
-use Rattle.judging.specs.Sorts.{several, joined, metBy, Met, Says, Within, AllMet, leftOf, allLeft, MetInOrder, MetPassed}
+use Rattle.judging.specs.Sorts.{several, joined, metBy, Met, Says, Within, AllMet, leftOf, allLeft, MetMore, MetPassed}
 
 -- ---- joining
 
@@ -264,15 +264,15 @@ module _ (S : Symbols) (small : (f : ℕ) → sortOf S f < 256) (h : Heap) (now 
       let less : leftOf v < leftOf (getD now n 0) = rw is (anew-less S small h now says n (at h n) (λ z. other (is ∙ z))) in
       all-left-less (length h) n v now lt inside less
 
--- ---- in order
+-- ---- said anew, one after the other
 
-pub in-order-first : (S : Symbols) (h : Heap) (met : List ℕ) → ((k : ℕ) → Says (Met S h k) (getD met k 0)) → MetInOrder S h met met
-in-order-first S h met says = record { long = refl; says = says; least = omega arith }
+pub more-first : (S : Symbols) (h : Heap) (met : List ℕ) → ((k : ℕ) → Says (Met S h k) (getD met k 0)) → MetMore S h met met
+more-first S h met says = record { long = refl; says = says; least = omega arith }
 
-pub in-order-mark : (S : Symbols) (small : (f : ℕ) → sortOf S f < 256) {h : Heap} {before now : List ℕ} (n v : ℕ) → MetInOrder S h before now
+pub more-mark : (S : Symbols) (small : (f : ℕ) → sortOf S f < 256) {h : Heap} {before now : List ℕ} (n v : ℕ) → MetMore S h before now
     → n < length h → n < length now
-    → v ≡ metBy S now (getD now n 0) (at h n) → (v ≡ getD now n 0 → ⊥) → MetInOrder S h before (set now n v)
-in-order-mark S small {h} {before} {now} n v p lt inside is other = record {
+    → v ≡ metBy S now (getD now n 0) (at h n) → (v ≡ getD now n 0 → ⊥) → MetMore S h before (set now n v)
+more-mark S small {h} {before} {now} n v p lt inside is other = record {
   long = length-set now n v ∙ p .long;
   says = set-says S small h now (p .says) n v inside is;
   least = omega (arith, set-fewer S small h now (p .says) n v inside is lt other, p .least);
@@ -361,7 +361,7 @@ abbrev pub oneIf : Bool → ℕ
 oneIf true = 1
 oneIf false = 0
 
-pub met-less : (S : Symbols) (h : Heap) (first before after : List ℕ) (changed again : Bool) → again ≡ true → MetInOrder S h first before
+pub met-less : (S : Symbols) (h : Heap) (first before after : List ℕ) (changed again : Bool) → again ≡ true → MetMore S h first before
     → MetPassed S h before after changed
     → allLeft (length h) after + oneIf changed < allLeft (length h) first + oneIf again
 met-less S h first before after true again is o p = rw is (omega (arith, p .fewer refl, o .least))

@@ -59,8 +59,8 @@ unfoldable pub allLeft : ℕ → List ℕ → ℕ
 allLeft zero met = 0
 allLeft (suc n) met = leftOf (getD met n 0) + allLeft n met
 
--- what is said anew of some nodes, one after the other
-pub record MetInOrder (S : Symbols) (h : Heap) (before after : List ℕ) : Type 0 where
+-- what is said anew of some nodes comes to
+pub record MetMore (S : Symbols) (h : Heap) (before after : List ℕ) : Type 0 where
   pub long : length after ≡ length before
   pub says : (n : ℕ) → Says (Met S h n) (getD after n 0)
   pub least : allLeft (length h) after ≤ allLeft (length h) before

@@ -1,8 +1,12 @@
-// A walk along the arrows of the nodes, depth first. It leaves an order, nodes in the order in which the walk is done with them, so that
-// arrows lead to nodes before, but on circles; and ranks: no arrow leads to a higher rank, and from a node on no circle all lead to lower
-// ones. Nothing is proved of the walk but that it ends: what it leaves is looked at where it counts, and if it were wrong would cost time.
+// A walk along the arrows of the nodes, depth first. It leaves ranks: no arrow leads to a higher one, and from a node on no circle all lead
+// to lower ones. Nothing is proved of the walk but that it ends: the ranks are tested before they are used, and wrong ones would cost time.
+ghost use Prim.Native.Nat.{_≤_};
+ghost use Rattle.limits.specs.Sizes.{mostNodes};
 use super::arrows_at;
 use super::number_of;
+use super::one_less;
+use super::one_more;
+use super::put_number;
 use super::wide;
 use limits::Limits;
 use nodes::arrow_at;
@@ -11,33 +15,16 @@ use nodes::arrow_at;
 pub struct Walk {
     // The next node to start from.
     pub start: u16,
-    // The nodes on the path from the start to where it stands.
+    // How many nodes lie on the path from the start to where it stands.
     pub height: u16,
-    // The nodes met so far, and the numbers of those that have no rank yet.
+    // How many nodes are met, and how many of them have no rank yet.
     pub met: u16,
     pub held: u16,
-    // The nodes that it is done with, and the next rank: past all numbers of nodes met.
-    pub done: u16,
+    // The next rank: past all numbers of nodes met.
     pub rank: u16,
 }
 
-fn one_more(n: u16) -> u16 {
-    if n < 65535 { n + 1 } else { n }
-}
-
-fn one_less(n: u16) -> u16 {
-    if n == 0 { 0 } else { n - 1 }
-}
-
-// A number at a place of a row, if the row is so long.
-fn put_number(row: &mut [u16], i: u16, v: u16) {
-    let at = wide(i);
-    if at < row.len() {
-        row[at] = v;
-    }
-}
-
-// The walk goes to node x, which it has not met. Until it has its rank a node has the lowest number of those met before it that it leads to.
+// The walk goes to node x, which it has not met, and numbers it. Until it has a rank, a node has the lowest number that it is known to lead to.
 fn enter(
     w: Walk,
     x: u16,
@@ -56,12 +43,11 @@ fn enter(
         height: one_more(w.height),
         met,
         held: one_more(w.held),
-        done: w.done,
         rank: w.rank,
     }
 }
 
-// The nodes held from node v on get their rank: how many are held then.
+// The nodes held, down to node v, get their rank: how many are held then.
 fn give_rank(held: &[u16], height: u16, v: u16, rank: u16, ranks: &mut [u16]) -> u16 {
     let mut i = height;
     while i != 0 {
@@ -75,17 +61,8 @@ fn give_rank(held: &[u16], height: u16, v: u16, rank: u16, ranks: &mut [u16]) ->
     i
 }
 
-// The walk is done with node v. If it leads to no node met before it that has no rank, those met since that have none lie on circles with it.
-fn leave(
-    w: Walk,
-    v: u16,
-    first: &[u16],
-    held: &[u16],
-    order: &mut [u16],
-    ranks: &mut [u16],
-) -> Walk {
-    put_number(order, w.done, v);
-    let done = one_more(w.done);
+// The walk is done with node v. If it leads to no node met before it that has no rank, those met since that have none are on circles with it.
+fn leave(w: Walk, v: u16, first: &[u16], held: &[u16], ranks: &mut [u16]) -> Walk {
     let height = one_less(w.height);
     if number_of(ranks, v) == number_of(first, v) {
         let left = give_rank(held, w.held, v, w.rank, ranks);
@@ -94,7 +71,6 @@ fn leave(
             height,
             met: w.met,
             held: left,
-            done,
             rank: one_more(w.rank),
         };
     }
@@ -103,18 +79,13 @@ fn leave(
         height,
         met: w.met,
         held: w.held,
-        done,
         rank: w.rank,
     }
 }
 
 // Whether node x is one of the first `used` that is not met.
 fn is_new(used: usize, ranks: &[u16], x: u16) -> bool {
-    if wide(x) < used {
-        number_of(ranks, x) == 0
-    } else {
-        false
-    }
+    if wide(x) < used { number_of(ranks, x) == 0 } else { false }
 }
 
 // Where an arrow of v leads to x, v gets the lower number of the two.
@@ -138,7 +109,6 @@ fn step(
     first: &mut [u16],
     path: &mut [u16],
     held: &mut [u16],
-    order: &mut [u16],
     ranks: &mut [u16],
 ) -> Walk {
     if w.height == 0 {
@@ -148,7 +118,6 @@ fn step(
             height: 0,
             met: w.met,
             held: w.held,
-            done: w.done,
             rank: w.rank,
         };
         if is_new(used, ranks, x) {
@@ -159,7 +128,7 @@ fn step(
     let v = number_of(path, one_less(w.height));
     let j = number_of(next, v);
     if arrows_at(book, table, nodes, v) <= wide(j) {
-        return leave(w, v, first, held, order, ranks);
+        return leave(w, v, first, held, ranks);
     }
     let x = arrow_at(nodes, v, j);
     if is_new(used, ranks, x) {
@@ -171,14 +140,9 @@ fn step(
 }
 
 // The walk over the first `used` nodes. A node takes a step to start from it, one to go to it, one for each arrow, eight at most, and one back.
-pub(crate) fn walk_all(
-    book: &[u8],
-    table: &[u16],
-    nodes: &[u16],
-    used: usize,
-    order: &mut [u16],
-    ranks: &mut [u16],
-) {
+pub(crate) fn walk_all(book: &[u8], table: &[u16], nodes: &[u16], used: usize, ranks: &mut [u16])
+    requires { ⌜ used ≤ mostNodes ⌝ }
+{
     let mut next = [0u16; Limits::NODES];
     let mut first = [0u16; Limits::NODES];
     let mut path = [0u16; Limits::NODES];
@@ -188,28 +152,11 @@ pub(crate) fn walk_all(
         height: 0,
         met: 0,
         held: 0,
-        done: 0,
         rank: 3201,
     };
-    let mut steps: usize = 35200;
+    let mut steps = 11 * used;
     while steps != 0 {
         steps -= 1;
-        w = step(
-            book,
-            table,
-            nodes,
-            used,
-            w,
-            &mut next,
-            &mut first,
-            &mut path,
-            &mut held,
-            order,
-            ranks,
-        );
-        let done = wide(w.done);
-        if used <= done {
-            return;
-        }
+        w = step(book, table, nodes, used, w, &mut next, &mut first, &mut path, &mut held, ranks);
     }
 }
