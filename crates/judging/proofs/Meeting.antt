@@ -278,6 +278,9 @@ more-mark S small {h} {before} {now} n v p lt inside is other = record {
   least = omega (arith, set-fewer S small h now (p .says) n v inside is lt other, p .least);
 }
 
+pub more-on : {S : Symbols} {h : Heap} {a b c : List ℕ} → MetMore S h a b → MetMore S h b c → MetMore S h a c
+more-on p q = record { long = q .long ∙ p .long; says = q .says; least = omega (arith, p .least, q .least) }
+
 -- ---- down from the last
 
 -- a pass that has come down to node n
@@ -361,11 +364,10 @@ abbrev pub oneIf : Bool → ℕ
 oneIf true = 1
 oneIf false = 0
 
-pub met-less : (S : Symbols) (h : Heap) (first before after : List ℕ) (changed again : Bool) → again ≡ true → MetMore S h first before
-    → MetPassed S h before after changed
-    → allLeft (length h) after + oneIf changed < allLeft (length h) first + oneIf again
-met-less S h first before after true again is o p = rw is (omega (arith, p .fewer refl, o .least))
-met-less S h first before after false again is o p = rw (is, p .same refl) (omega (arith, o .least))
+pub met-less : (S : Symbols) (h : Heap) (before after : List ℕ) (changed again : Bool) → again ≡ true → MetPassed S h before after changed
+    → allLeft (length h) after + oneIf changed < allLeft (length h) before + oneIf again
+met-less S h before after true again is p = rw is (omega (arith, p .fewer refl))
+met-less S h before after false again is p = rw (is, p .same refl) (omega arith)
 
 -- ---- as the code joins
 

@@ -85,7 +85,11 @@ fn leave(w: Walk, v: u16, first: &[u16], held: &[u16], ranks: &mut [u16]) -> Wal
 
 // Whether node x is one of the first `used` that is not met.
 fn is_new(used: usize, ranks: &[u16], x: u16) -> bool {
-    if wide(x) < used { number_of(ranks, x) == 0 } else { false }
+    if wide(x) < used {
+        number_of(ranks, x) == 0
+    } else {
+        false
+    }
 }
 
 // Where an arrow of v leads to x, v gets the lower number of the two.
@@ -157,6 +161,17 @@ pub(crate) fn walk_all(book: &[u8], table: &[u16], nodes: &[u16], used: usize, r
     let mut steps = 11 * used;
     while steps != 0 {
         steps -= 1;
-        w = step(book, table, nodes, used, w, &mut next, &mut first, &mut path, &mut held, ranks);
+        w = step(
+            book,
+            table,
+            nodes,
+            used,
+            w,
+            &mut next,
+            &mut first,
+            &mut path,
+            &mut held,
+            ranks,
+        );
     }
 }

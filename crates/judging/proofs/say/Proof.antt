@@ -34,7 +34,7 @@ same-length : tie.Need-same-length
 same-length c = search needs
 
 returns : tie.Need-returns
-returns c =     let start = c .before .before .before .before .before .before .before .before .before .before in
+returns c = let start = c .before .before .before .before .before .before .before .before .before .before in
     let a = start .args in
     let S = symbolsIn (a .book .now) (a .table .now) in
     let m = a .nodes .now in
@@ -47,7 +47,8 @@ returns c =     let start = c .before .before .before .before .before .before .b
     new .ensures ∙ ap (λ (x : ℕ). metBy S met (getD met x 0) (nodeIn S m x)) (sym (i .ensures .0)) in
     let said = is ∙ ap (metBy S met (getD met (i .result) 0)) (sym (heap-at S m (a .used) (i .result) lt)) in
     let sized : length h ≡ a .used = heap-sized S m (a .used) in
-    more-mark S (start .pre .2) (i .result) (new .result) (more-first S h met (start .pre .3)) (omega (arith, lt, sized)) (omega (arith, lt, start .pre .0)) said (c .if2 .taken)
+    more-mark S (start .pre .2) (i .result) (new .result) (more-first S h met (start .pre .3)) (omega (arith, lt, sized))
+    (omega (arith, lt, start .pre .0)) said (c .if2 .taken)
 
 same-length-2 : tie.Need-same-length-2
 same-length-2 c = search needs

@@ -9,7 +9,8 @@ use Rattle.judging.proofs.walk.walk_all.Statement.{statement}
 use Rattle.judging.proofs.walk.walk_all.Tie as tie
 
 abbrev Inv-loop : tie.InvT-loop
-Inv-loop book table nodes used ranks₀ next₀ first₀ path₀ held₀ w₀ steps₀ ranks next first path held w steps =     (length ranks ≡ length ranks₀) × (length next ≡ mostNodes) × (length first ≡ mostNodes) × (length path ≡ mostNodes) × (length held ≡ mostNodes)
+Inv-loop book table nodes used ranks₀ next₀ first₀ path₀ held₀ w₀ steps₀ ranks next first path held w steps = (length ranks ≡ length ranks₀) ×
+    (length next ≡ mostNodes) × (length first ≡ mostNodes) × (length path ≡ mostNodes) × (length held ≡ mostNodes)
 
 abbrev μ-loop : tie.MeasureT-loop
 μ-loop book table nodes used ranks₀ next₀ first₀ path₀ held₀ w₀ steps₀ ranks next first path held w steps = steps
@@ -42,9 +43,15 @@ loop-less : tie.Need-loop-less Inv-loop μ-loop
 loop-less c = search needs
 
 loop-again : tie.Need-loop-again Inv-loop μ-loop
-loop-again c =     let kept = c .before .before .before .before .before .before .step .kept in
-    let l = c .before .before .before .before .before .before .before .before .before .before .before .before .before .loop .inv in
-    (kept .1 .1 .1 .1 .1 .1 .1 .1 .1 .0 ∙ l .0, kept .1 .1 .1 .1 .1 .0 ∙ l .1, kept .1 .1 .1 .1 .1 .1 .0 ∙ l .2, kept .1 .1 .1 .1 .1 .1 .1 .0 ∙ l .3, kept .1 .1 .1 .1 .1 .1 .1 .1 .0 ∙ l .4)
+loop-again c = let kept = c .before .before .before .before .before .before .step .kept in
+    let l = c .before .before .before .before .before .before .before .before .before .before .before .before .before .loop .inv in (
+      kept .1 .1 .1 .1 .1 .1 .1 .1 .1 .0 ∙ l .0,
+      kept .1 .1 .1 .1 .1 .0 ∙ l .1,
+      kept .1 .1 .1 .1 .1 .1 .0 ∙ l .2,
+      kept .1 .1 .1 .1 .1 .1 .1 .0
+          ∙ l .3,
+      kept .1 .1 .1 .1 .1 .1 .1 .1 .0 ∙ l .4,
+    )
 
 same-length : tie.Need-same-length Inv-loop μ-loop
 same-length c = c .before .loop .inv .0
