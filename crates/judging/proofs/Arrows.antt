@@ -1,11 +1,9 @@
--- The arrows of a node, and marks, as the code reads them.
-use mathlib.Core.Bool.{Bool, true, false, _||_, not}
+-- The arrows of a node, as the code reads them.
+use mathlib.Core.Bool.{Bool, true, false, _||_}
 use mathlib.Core.List.{List, [], _∷_}
 use mathlib.Core.Path.{_≡_, refl, sym, ap, _∙_}
 use Prim.Native.Nat.{ℕ, zero, suc, _+_, _<_, _≤_}
 use native.Mathlib.Omega.{arith}
-use borrow.Author.Tests.{lt-ltb, le-ltb}
-use lib.Dec.{eqb}
 use lib.ListN.{length, getD, drop, List·getD-eq-default}
 use Rattle.symbols.specs.Symbols.{Symbol, noSymbol}
 use Rattle.symbols.specs.Table.{symbolIn, symbolsIn}
@@ -15,21 +13,6 @@ use Rattle.rewriting.proofs.Lists.{length-firsts, getD-firsts}
 use Rattle.sorts.specs.Sorts.{argumentsOf}
 use Rattle.accepted.specs.Read.{nodeBy, nodeIn}
 use Rattle.accepted.specs.Faults.{someOf, arrowsOf}
-use Rattle.judging.specs.Marks.{unended}
-
--- ---- marks
-
-pub open-read : (used x : ℕ) (marks : List ℕ) → x < used → not (eqb (getD marks x 0) 1) ≡ unended used marks x
-unfolding unended
-open-read used x marks lt = rw (lt-ltb x used lt) refl
-
-pub open-past : (used x : ℕ) (marks : List ℕ) → x < used → length marks ≤ x → true ≡ unended used marks x
-unfolding unended
-open-past used x marks lt past = rw (lt-ltb x used lt, List·getD-eq-default marks 0 past) refl
-
-pub open-outside : (used x : ℕ) (marks : List ℕ) → used ≤ x → false ≡ unended used marks x
-unfolding unended
-open-outside used x marks past = rw (le-ltb x used past) refl
 
 -- ---- how many arrows
 
@@ -43,14 +26,17 @@ module _ (book table m : List ℕ) (n : ℕ) where
   unfolding nodeBy arrowsOf
   apply-many is = rw is (length-firsts (length (argumentsOf (symbolsIn book table) (labelIn m n))) (arrowIn m n))
 
-  pub known-many : (kind f r : ℕ) → kind ≡ kindIn m n → kind ≡ 0 → f ≡ labelIn m n → f < length table → r ≡ length (symbolIn book (getD table f 0) .arguments) → r ≡ many
+  pub known-many : (kind f r : ℕ) → kind ≡ kindIn m n → kind ≡ 0 → f ≡ labelIn m n → f < length table → r ≡ length
+      (symbolIn book (getD table f 0) .arguments) → r ≡ many
   known-many kind f r k is l lt e =
-      e ∙ ap (λ (x : Symbol). length (x .arguments)) (sym (symbol-there book table f lt)) ∙ ap (λ (g : ℕ). length (argumentsOf (symbolsIn book table) g)) l ∙ sym (apply-many (sym k ∙ is))
+      e ∙ ap (λ (x : Symbol). length (x .arguments)) (sym (symbol-there book table f lt)) ∙ ap
+      (λ (g : ℕ). length (argumentsOf (symbolsIn book table) g)) l ∙ sym (apply-many (sym k ∙ is))
 
   pub unknown-many : (kind f : ℕ) → kind ≡ kindIn m n → kind ≡ 0 → f ≡ labelIn m n → length table ≤ f → 0 ≡ many
   unfolding noSymbol
   unknown-many kind f k is l past =
-      sym (apply-many (sym k ∙ is) ∙ ap (λ (x : Symbol). length (x .arguments)) (List·getD-eq-default (symbolsIn book table) noSymbol (omega (arith, l, past, as-many book table))))
+      sym (apply-many (sym k ∙ is) ∙ ap (λ (x : Symbol). length (x .arguments))
+      (List·getD-eq-default (symbolsIn book table) noSymbol (omega (arith, l, past, as-many book table))))
 
   pub choice-many : (kind : ℕ) → kind ≡ kindIn m n → kind ≡ 1 → 2 ≡ many
   unfolding nodeBy arrowsOf
@@ -110,7 +96,8 @@ one-more bad (x ∷ (y ∷ xs)) zero lt = refl
 one-more bad (x ∷ xs) (suc j) lt = one-more bad xs j (omega arith)
 
 -- one that is not bad, and one that is
-pub step-none : (bad : ℕ → Bool) (xs : List ℕ) (j x : ℕ) → j < length xs → getD xs j 0 ≡ x → bad x ≡ false → someOf bad (drop j xs) ≡ someOf bad (drop (j + 1) xs)
+pub step-none : (bad : ℕ → Bool) (xs : List ℕ) (j x : ℕ) → j < length xs → getD xs j 0 ≡ x → bad x ≡ false → someOf bad (drop j xs) ≡ someOf bad
+    (drop (j + 1) xs)
 step-none bad xs j x lt is e =
     let here : bad (getD xs j 0) ≡ false = ap bad is ∙ e in
     let next : suc j ≡ j + 1 = omega arith in

@@ -1,6 +1,11 @@
 pub mod Arrows
-pub mod Peeling
+pub mod Unseen
+pub mod Searched
+pub mod Falls
 pub mod Meeting
 pub mod MetAt
 pub mod Tests
-pub mod Searched
+pub mod Unfit
+pub mod Wrong
+pub mod Firsts
+pub mod Pairs

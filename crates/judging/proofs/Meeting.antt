@@ -8,14 +8,14 @@ use native.Mathlib.Decide.{ℕ-discrete, decLt}
 use native.Mathlib.Omega.{arith}
 use borrow.Author.Tests.{eq-eqb, ne-eqb, lt-ltb, ltb-true}
 use lib.Dec.{ltb, eqb}
-use lib.ListN.{length, getD, set, length-set}
+use lib.ListN.{length, getD, set, length-set, replicate}
 use lib.Seq.{getD-set-same, getD-set-other}
 use Rattle.symbols.specs.Symbols.{Symbols}
 use Rattle.nodes.specs.Nodes.{Node, apply, choice, fail, forward, Heap, at}
 use Rattle.sorts.specs.Sorts.{sortOf}
 use Rattle.rewriting.proofs.Heaps.{there, apply≢fail, forward≢fail, choice≢fail}
 use Rattle.accepted.specs.Accepted.{Meets}
-use Rattle.judging.specs.Sorts.{several, joined, metBy, Met, Says, Within, AllMet, leftOf, allLeft, MetPassed}
+use Rattle.judging.specs.Sorts.{several, joined, metBy, Met, Says, Within, AllMet, leftOf, allLeft, MetMore, MetPassed}
 
 -- ---- joining
 
@@ -161,7 +161,16 @@ says-on f (Says.more {s} {t} o p q) = Says.more o (f s p) (f t q)
 module _ (S : Symbols) (small : (f : ℕ) → sortOf S f < 256) (h : Heap) where
   -- along an arrow
   met-on : {n t s : ℕ} → ((m : ℕ) → Meets h t m → Meets h n m) → Met S h t s → Met S h n s
-  met-on on x = record { node = x .node; symbol = x .symbol; arguments = x .arguments; meets = on (x .node) (x .meets); is = x .is; known = x .known; sorted = x .sorted }
+  met-on on x = record {
+    node = x .node;
+    symbol = x .symbol;
+    arguments = x .arguments;
+    meets = on (x .node)
+        (x .meets);
+    is = x .is;
+    known = x .known;
+    sorted = x .sorted;
+  }
 
   module _ (met : List ℕ) (says : (n : ℕ) → Says (Met S h n) (getD met n 0)) where
     -- what is said anew of node n is so
@@ -170,7 +179,8 @@ module _ (S : Symbols) (small : (f : ℕ) → sortOf S f < 256) (h : Heap) where
     anew-says n (apply f xs) is = by (ltb f (length S)) refl
       where
         by : (b : Bool) → ltb f (length S) ≡ b → Says (Met S h n) (elim b [ true ↦ joined (getD met n 0) (suc (sortOf S f)) | false ↦ getD met n 0 ])
-        by true q = join-says (says n) (Says.one (small f) (record { node = n; symbol = f; arguments = xs; meets = Meets.here; is = is; known = ltb-true _ _ q; sorted = refl }))
+        by true q = join-says (says n) (Says.one (small f)
+            (record { node = n; symbol = f; arguments = xs; meets = Meets.here; is = is; known = ltb-true _ _ q; sorted = refl }))
         by false q = says n
     anew-says n (choice i l r) is =
         join-says (join-says (says n) (says-on (λ s. met-on (λ m p. Meets.left is p)) (says l))) (says-on (λ s. met-on (λ m p. Meets.right is p)) (says r))
@@ -192,7 +202,8 @@ module _ (S : Symbols) (small : (f : ℕ) → sortOf S f < 256) (h : Heap) where
     anew-less n (forward t) other = join-less (getD met n 0) (getD met t 0) (says-bound (says t)) (says-bound (says n)) other
 
     -- where nothing changes, all that is met is said
-    pub closed-met : ((n : ℕ) → n < length h → metBy S met (getD met n 0) (at h n) ≡ getD met n 0) → {n m f : ℕ} {xs : List ℕ} → Meets h n m → at h m ≡ apply f xs
+    pub closed-met : ((n : ℕ) → n < length h → metBy S met (getD met n 0) (at h n) ≡ getD met n 0) → {n m f : ℕ} {xs : List ℕ} → Meets h n m
+        → at h m ≡ apply f xs
         → f < length S → Within (sortOf S f) (getD met n 0)
     unfolding metBy
     closed-met closed {n} {f = f} {xs} Meets.here is known =
@@ -204,11 +215,13 @@ module _ (S : Symbols) (small : (f : ℕ) → sortOf S f < 256) (h : Heap) where
         join-covers (getD met n 0) (getD met t 0) (sortOf S f) (rw (e, metBy) at (closed n (there h n (forward≢fail e)))) (closed-met closed p is known)
     closed-met closed {n} {f = f} (Meets.left {l = l} {r} e p) is known =
         join-covers (getD met n 0) (getD met l 0) (sortOf S f)
-        (join-both (getD met n 0) (getD met l 0) (getD met r 0) (says-bound (says n)) (says-bound (says l)) (says-bound (says r)) (rw (e, metBy) at (closed n (there h n (choice≢fail e)))) .0)
+        (join-both (getD met n 0) (getD met l 0) (getD met r 0) (says-bound (says n)) (says-bound (says l)) (says-bound (says r))
+        (rw (e, metBy) at (closed n (there h n (choice≢fail e)))) .0)
         (closed-met closed p is known)
     closed-met closed {n} {f = f} (Meets.right {l = l} {r} e p) is known =
         join-covers (getD met n 0) (getD met r 0) (sortOf S f)
-        (join-both (getD met n 0) (getD met l 0) (getD met r 0) (says-bound (says n)) (says-bound (says l)) (says-bound (says r)) (rw (e, metBy) at (closed n (there h n (choice≢fail e)))) .1)
+        (join-both (getD met n 0) (getD met l 0) (getD met r 0) (says-bound (says n)) (says-bound (says l)) (says-bound (says r))
+        (rw (e, metBy) at (closed n (there h n (choice≢fail e)))) .1)
         (closed-met closed p is known)
 
 -- ---- one pass
@@ -234,6 +247,42 @@ all-left-less (suc n) i v met lt inside less = by (ℕ-discrete n i) (λ lt. all
         between : (n i : ℕ) → i < suc n → (n ≡ i → ⊥) → i < n
         between n i lt q = elim (decLt i n) [ yes le ↦ le | no ge ↦ absurd (q (omega arith)) ]
 
+-- a node of which something is said anew
+module _ (S : Symbols) (small : (f : ℕ) → sortOf S f < 256) (h : Heap) (now : List ℕ) (says : (k : ℕ) → Says (Met S h k) (getD now k 0)) (n v : ℕ)
+    (inside : n < length now) (is : v ≡ metBy S now (getD now n 0) (at h n)) where
+  set-says : (k : ℕ) → Says (Met S h k) (getD (set now n v) k 0)
+  set-says k = by (ℕ-discrete k n)
+    where
+      by : Dec (k ≡ n) → Says (Met S h k) (getD (set now n v) k 0)
+      by (yes q) =
+          subst (λ (j : ℕ). Says (Met S h j) (getD (set now n v) j 0)) (sym q)
+          (rw (getD-set-same now n v 0 inside, is) (anew-says S small h now says n (at h n) refl))
+      by (no q) = rw (getD-set-other now n k v 0 q) (says k)
+
+  set-fewer : n < length h → (v ≡ getD now n 0 → ⊥) → allLeft (length h) (set now n v) < allLeft (length h) now
+  set-fewer lt other =
+      let less : leftOf v < leftOf (getD now n 0) = rw is (anew-less S small h now says n (at h n) (λ z. other (is ∙ z))) in
+      all-left-less (length h) n v now lt inside less
+
+-- ---- said anew, one after the other
+
+pub more-first : (S : Symbols) (h : Heap) (met : List ℕ) → ((k : ℕ) → Says (Met S h k) (getD met k 0)) → MetMore S h met met
+more-first S h met says = record { long = refl; says = says; least = omega arith }
+
+pub more-mark : (S : Symbols) (small : (f : ℕ) → sortOf S f < 256) {h : Heap} {before now : List ℕ} (n v : ℕ) → MetMore S h before now
+    → n < length h → n < length now
+    → v ≡ metBy S now (getD now n 0) (at h n) → (v ≡ getD now n 0 → ⊥) → MetMore S h before (set now n v)
+more-mark S small {h} {before} {now} n v p lt inside is other = record {
+  long = length-set now n v ∙ p .long;
+  says = set-says S small h now (p .says) n v inside is;
+  least = omega (arith, set-fewer S small h now (p .says) n v inside is lt other, p .least);
+}
+
+pub more-on : {S : Symbols} {h : Heap} {a b c : List ℕ} → MetMore S h a b → MetMore S h b c → MetMore S h a c
+more-on p q = record { long = q .long ∙ p .long; says = q .says; least = omega (arith, p .least, q .least) }
+
+-- ---- down from the last
+
 -- a pass that has come down to node n
 pub record Meeting (S : Symbols) (h : Heap) (before now : List ℕ) (changed : Bool) (n : ℕ) : Type 0 where
   pub down : n ≤ length h
@@ -245,7 +294,8 @@ pub record Meeting (S : Symbols) (h : Heap) (before now : List ℕ) (changed : B
   pub same : changed ≡ false → now ≡ before
   pub closed : changed ≡ false → (k : ℕ) → n ≤ k → k < length h → metBy S now (getD now k 0) (at h k) ≡ getD now k 0
 
-pub meeting-first : (S : Symbols) (h : Heap) (met : List ℕ) → length h ≤ length met → ((k : ℕ) → Says (Met S h k) (getD met k 0)) → Meeting S h met met false (length h)
+pub meeting-first : (S : Symbols) (h : Heap) (met : List ℕ) → length h ≤ length met → ((k : ℕ) → Says (Met S h k) (getD met k 0))
+    → Meeting S h met met false (length h)
 meeting-first S h met room says = record {
   down = omega arith;
   room = room;
@@ -257,7 +307,8 @@ meeting-first S h met room says = record {
   closed = λ q k le lt. absurd (omega arith);
 }
 
-module _ (S : Symbols) (small : (f : ℕ) → sortOf S f < 256) {h : Heap} {before now : List ℕ} {changed : Bool} {n : ℕ} (p : Meeting S h before now changed (suc n)) where
+module _ (S : Symbols) (small : (f : ℕ) → sortOf S f < 256) {h : Heap} {before now : List ℕ} {changed : Bool} {n : ℕ}
+    (p : Meeting S h before now changed (suc n)) where
   -- nothing new is met from node n
   pub meeting-on : metBy S now (getD now n 0) (at h n) ≡ getD now n 0 → Meeting S h before now changed n
   meeting-on here = record {
@@ -279,24 +330,17 @@ module _ (S : Symbols) (small : (f : ℕ) → sortOf S f < 256) {h : Heap} {befo
   pub meeting-mark : (v : ℕ) → v ≡ metBy S now (getD now n 0) (at h n) → (v ≡ getD now n 0 → ⊥) → Meeting S h before (set now n v) true n
   meeting-mark v is other =
       let inside : n < length now = omega (arith, p .down, p .room) in
-      let less : leftOf v < leftOf (getD now n 0) = rw is (anew-less S small h now (p .says) n (at h n) (λ z. other (is ∙ z))) in
-      let fewer = all-left-less (length h) n v now (omega (arith, p .down)) inside less in
+      let fewer = set-fewer S small h now (p .says) n v inside is (omega (arith, p .down)) other in
       record {
         down = omega (arith, p .down);
         room = rw length-set (p .room);
         long = length-set now n v ∙ p .long;
-        says = λ k. by k (ℕ-discrete k n) inside;
+        says = set-says S small h now (p .says) n v inside is;
         least = omega (arith, fewer, p .least);
         fewer = λ q. omega (arith, fewer, p .least);
         same = λ q. absurd (let z : _≡_ {A = ℕ} 0 1 = cc in omega arith);
         closed = λ q. absurd (let z : _≡_ {A = ℕ} 0 1 = cc in omega arith);
       }
-    where
-      by : (k : ℕ) → Dec (k ≡ n) → n < length now → Says (Met S h k) (getD (set now n v) k 0)
-      by k (yes q) inside =
-          subst (λ (j : ℕ). Says (Met S h j) (getD (set now n v) j 0)) (sym q)
-          (rw (getD-set-same now n v 0 inside, is) (anew-says S small h now (p .says) n (at h n) refl))
-      by k (no q) inside = rw (getD-set-other now n k v 0 q) (p .says k)
 
 -- it ends before the first
 pub meeting-last : {S : Symbols} {h : Heap} {before now : List ℕ} {changed : Bool} → Meeting S h before now changed 0 → MetPassed S h before now changed
@@ -309,6 +353,12 @@ all-met S small h met says closed = record {
   says = says;
   all = λ n s x. rw (x .sorted) at (closed-met S small h met says closed (x .meets) (x .is) (x .known));
 }
+
+-- of a row of zeros nothing is said
+pub nothing-said : {P : ℕ → Type 0} (k n : ℕ) → Says P (getD (replicate k 0) n 0)
+nothing-said zero n = Says.nothing
+nothing-said (suc k) zero = Says.nothing
+nothing-said (suc k) (suc n) = nothing-said k n
 
 abbrev pub oneIf : Bool → ℕ
 oneIf true = 1

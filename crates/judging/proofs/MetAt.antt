@@ -20,7 +20,8 @@ module _ (book table m met : List ℕ) (n own : ℕ) where
   abbrev said : ℕ
   said = metBy S met own (nodeIn S m n)
 
-  pub said-known : (kind f s r : ℕ) → kind ≡ kindIn m n → kind ≡ 0 → f ≡ labelIn m n → f < length table → s ≡ symbolIn book (getD table f 0) .sort → r ≡ joined own (s + 1) → r ≡ said
+  pub said-known : (kind f s r : ℕ) → kind ≡ kindIn m n → kind ≡ 0 → f ≡ labelIn m n → f < length table → s ≡ symbolIn book (getD table f 0) .sort
+      → r ≡ joined own (s + 1) → r ≡ said
   unfolding metBy nodeBy
   said-known kind f s r k is l lt sort e =
       let known : labelIn m n < length S = omega (arith, l, lt, as-many book table) in
@@ -34,7 +35,8 @@ module _ (book table m met : List ℕ) (n own : ℕ) where
       let unknown : length S ≤ labelIn m n = omega (arith, l, past, as-many book table) in
       rw (sym k ∙ is, metBy, le-ltb (labelIn m n) (length S) unknown) refl
 
-  pub said-choice : (kind a b i j r : ℕ) → kind ≡ kindIn m n → kind ≡ 1 → a ≡ getD met (arrowIn m n 0) 0 → b ≡ getD met (arrowIn m n 1) 0 → i ≡ joined own a → r ≡ joined i b → r ≡ said
+  pub said-choice : (kind a b i j r : ℕ) → kind ≡ kindIn m n → kind ≡ 1 → a ≡ getD met (arrowIn m n 0) 0 → b ≡ getD met (arrowIn m n 1) 0
+      → i ≡ joined own a → r ≡ joined i b → r ≡ said
   unfolding metBy nodeBy
   said-choice kind a b i j r k is l q first e = e ∙ rw (first, l, q, sym k ∙ is, metBy) refl
 

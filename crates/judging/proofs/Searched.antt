@@ -8,7 +8,7 @@ use native.Mathlib.Decide.{ℕ-discrete, decLt}
 use native.Mathlib.Omega.{arith}
 use borrow.Author.Tests.{eq-eqb, ne-eqb, ltb-true, not-true}
 use lib.Dec.{ltb, eqb}
-use lib.ListN.{length, getD, set, length-set}
+use lib.ListN.{length, getD, set, length-set, replicate}
 use lib.Seq.{getD-set-same, getD-set-other}
 use Rattle.nodes.specs.Nodes.{fail, Heap, at}
 use Rattle.rewriting.proofs.Heaps.{there}
@@ -18,9 +18,8 @@ use Rattle.accepted.specs.Faults.{arrowsOf, returns}
 use Rattle.accepted.proofs.Circles.{path-end}
 use Rattle.accepted.proofs.Misfits.{and-both}
 use Rattle.accepted.proofs.Reaches.{arrow-in, in-arrow, not-both, not-passed, returns-path, path-returns}
-use Rattle.judging.specs.Marks.{unended, missing, unmarked}
-use Rattle.judging.specs.Search.{Seen, AllSeen, OnStack, Searching, Roomy, Put}
-use Rattle.judging.proofs.Peeling.{unmarked-less}
+use Rattle.judging.specs.Search.{Seen, isUnseen, missing, unseen, AllSeen, OnStack, Searching, Roomy, Put}
+use Rattle.judging.proofs.Unseen.{unseen-less}
 
 -- one more is seen
 see-more : (seen : List ℕ) (x y : ℕ) → x < length seen → Seen seen y → Seen (set seen x 1) y
@@ -48,7 +47,8 @@ push {h} {n} {P} {seen} {stack} {top} x lt inside room path s = record {
 
     stacked : (i : ℕ) → Dec (i ≡ top) → i < suc top → Seen (set seen x 1) (getD (set stack top x) i 0)
     stacked i (yes q) b =
-        subst (λ (z : ℕ). Seen (set seen x 1) z) (sym (ap (λ (k : ℕ). getD (set stack top x) k 0) q ∙ getD-set-same stack top x 0 room)) (getD-set-same seen x 1 0 inside)
+        subst (λ (z : ℕ). Seen (set seen x 1) z) (sym (ap (λ (k : ℕ). getD (set stack top x) k 0) q ∙ getD-set-same stack top x 0 room))
+        (getD-set-same seen x 1 0 inside)
     stacked i (no q) b =
         subst (λ (z : ℕ). Seen (set seen x 1) z) (sym (getD-set-other stack top i x 0 q))
         (see-more seen x (getD stack i 0) inside (s .stacked i (elim (decLt i top) [ yes le ↦ le | no ge ↦ absurd (q (omega arith)) ])))
@@ -67,7 +67,7 @@ push {h} {n} {P} {seen} {stack} {top} x lt inside room path s = record {
 pub record Putting (h : Heap) (from : ℕ) (seen stack : List ℕ) (height : ℕ) (seen′ stack′ : List ℕ) (top j : ℕ) : Type 0 where
   pub same-seen : length seen′ ≡ length seen
   pub same-stack : length stack′ ≡ length stack
-  pub sum : top + unmarked (length h) seen′ ≡ height + unmarked (length h) seen
+  pub sum : top + unseen (length h) seen′ ≡ height + unseen (length h) seen
   pub more : (x : ℕ) → Seen seen x → Seen seen′ x
   pub first : (i : ℕ) → i < j → i < length (arrowsOf (at h from)) → getD (arrowsOf (at h from)) i 0 < length h → Seen seen′ (getD (arrowsOf (at h from)) i 0)
   pub goes : (n : ℕ) → (from ≡ n) ⊎ Path h n from → Searching h n (λ y. y ≡ from) seen stack height → Searching h n (λ y. y ≡ from) seen′ stack′ top
@@ -109,7 +109,8 @@ module _ {h : Heap} {from : ℕ} {seen stack : List ℕ} {height : ℕ} {seen′
     goes = p .goes;
   }
     where
-      by : (i : ℕ) → Dec (i ≡ j) → i < j + 1 → i < length (arrowsOf (at h from)) → getD (arrowsOf (at h from)) i 0 < length h → Seen seen′ (getD (arrowsOf (at h from)) i 0)
+      by : (i : ℕ) → Dec (i ≡ j) → i < j + 1 → i < length (arrowsOf (at h from)) → getD (arrowsOf (at h from)) i 0 < length h → Seen seen′
+          (getD (arrowsOf (at h from)) i 0)
       by i (yes q) lt b c =
           let same : getD (arrowsOf (at h from)) i 0 ≡ x = ap (λ (k : ℕ). getD (arrowsOf (at h from)) k 0) q ∙ is in
           subst (Seen seen′) (sym same) (here (subst (λ (z : ℕ). z < length h) same c))
@@ -121,12 +122,13 @@ module _ {h : Heap} {from : ℕ} {seen stack : List ℕ} {height : ℕ} {seen′
   putting-push lt inside there room other = record {
     same-seen = length-set seen′ x 1 ∙ p .same-seen;
     same-stack = length-set stack′ top x ∙ p .same-stack;
-    sum = omega (arith, p .sum, unmarked-less (length h) x seen′ inside there other);
+    sum = omega (arith, p .sum, unseen-less (length h) x seen′ inside there other);
     more = λ y s. see-more seen′ x y there (p .more y s);
     first = λ i lt b c. by i (ℕ-discrete i j) lt b c;
     goes = λ n from-n s.
         subst (Searching h n (λ y. y ≡ from) (set seen′ x 1) (set stack′ top x)) (let z : suc top ≡ top + 1 = omega arith in z)
-        (push x inside there room (step from-n (in-arrow (at h from) (subst (λ (y : ℕ). In y (arrowsOf (at h from))) is (arrow-at (arrowsOf (at h from)) j lt)))) (p .goes n from-n s));
+        (push x inside there room (step from-n (in-arrow (at h from)
+        (subst (λ (y : ℕ). In y (arrowsOf (at h from))) is (arrow-at (arrowsOf (at h from)) j lt)))) (p .goes n from-n s));
   }
     where
       by : (i : ℕ) → Dec (i ≡ j) → i < j + 1 → i < length (arrowsOf (at h from)) → getD (arrowsOf (at h from)) i 0 < length h
@@ -137,7 +139,8 @@ module _ {h : Heap} {from : ℕ} {seen stack : List ℕ} {height : ℕ} {seen′
           see-more seen′ x (getD (arrowsOf (at h from)) i 0) there (p .first i (elim (decLt i j) [ yes le ↦ le | no ge ↦ absurd (q (omega arith)) ]) b c)
 
 -- all of them
-pub putting-last : {h : Heap} {from : ℕ} {seen stack : List ℕ} {height : ℕ} {seen′ stack′ : List ℕ} {top j : ℕ} → Putting h from seen stack height seen′ stack′ top j
+pub putting-last : {h : Heap} {from : ℕ} {seen stack : List ℕ} {height : ℕ} {seen′ stack′ : List ℕ} {top j : ℕ}
+    → Putting h from seen stack height seen′ stack′ top j
     → length (arrowsOf (at h from)) ≤ j → Put h from seen stack height seen′ stack′ top
 putting-last {h} {from} {seen′ = seen′} {stack′} {top} {j} p le = record {
   same-seen = p .same-seen;
@@ -160,11 +163,11 @@ putting-last {h} {from} {seen′ = seen′} {stack′} {top} {j} p le = record {
     by y (inr r) = inr r
 
 -- what the code's test says
-pub is-open : (used x : ℕ) (marks : List ℕ) → unended used marks x ≡ true → (x < used) × (Seen marks x → ⊥)
-unfolding unended
-is-open used x marks e =
-    let (a, b) = and-both (ltb x used) (not (eqb (getD marks x 0) 1)) e in
-    (ltb-true _ _ a, λ q. not-both (eqb (getD marks x 0) 1) (not-true _ b) (eq-eqb (getD marks x 0) 1 q))
+pub is-unseen : (used x : ℕ) (seen : List ℕ) → isUnseen used seen x ≡ true → (x < used) × (Seen seen x → ⊥)
+unfolding isUnseen
+is-unseen used x seen e =
+    let (a, b) = and-both (ltb x used) (not (eqb (getD seen x 0) 1)) e in
+    (ltb-true _ _ a, λ q. not-both (eqb (getD seen x 0) 1) (not-true _ b) (eq-eqb (getD seen x 0) 1 q))
 
 -- ---- the stack
 
@@ -182,15 +185,21 @@ pop {h} {n} {seen} {stack} {k} s = record { reached = s .reached; stacked = λ i
     by y (inr (inr all)) = inr (inr all)
 
 -- nothing is seen yet
-pub unseen : {h : Heap} {n : ℕ} {seen stack : List ℕ} → ((x : ℕ) → Seen seen x → ⊥) → Searching h n (λ y. y ≡ n) seen stack 0
-unseen none = record { reached = λ x is. absurd (none x is); stacked = λ i lt. absurd (omega arith); done = λ y is. absurd (none y is) }
+pub nothing-seen : {h : Heap} {n : ℕ} {seen stack : List ℕ} → ((x : ℕ) → Seen seen x → ⊥) → Searching h n (λ y. y ≡ n) seen stack 0
+nothing-seen none = record { reached = λ x is. absurd (none x is); stacked = λ i lt. absurd (omega arith); done = λ y is. absurd (none y is) }
+
+-- in a row of zeros nothing is
+pub none-seen : (k x : ℕ) → Seen (replicate k 0) x → ⊥
+none-seen zero x is = omega arith
+none-seen (suc k) zero is = omega arith
+none-seen (suc k) (suc x) is = none-seen k x is
 
 -- what is seen stays so
 pub all-on : {h : Heap} {seen seen′ : List ℕ} {y : ℕ} → ((x : ℕ) → Seen seen x → Seen seen′ x) → AllSeen h seen y → AllSeen h seen′ y
 all-on more all = record { each = λ x a lt. more x (all .each x a lt) }
 
 -- a node with an arrow is there
-arrow-there : (h : Heap) (y : ℕ) {x : ℕ} → Arrow x (at h y) → y < length h
+pub arrow-there : (h : Heap) (y : ℕ) {x : ℕ} → Arrow x (at h y) → y < length h
 arrow-there h y a = there h y (λ z. none (subst (Arrow _) z a))
   where
     none : {x : ℕ} → ¬ Arrow x fail
@@ -223,36 +232,39 @@ module _ (h : Heap) (n : ℕ) (seen stack : List ℕ) (s : Searching h n (λ y. 
   not-seen-returns lt other = sym (not-passed (returns h n) (λ e. other (reached-seen begun (returns-path h n e) lt)))
 
 -- while a node is not seen, there is room on the stack
-pub stack-room : {h : Heap} {from : ℕ} {seen stack : List ℕ} {height : ℕ} {seen′ stack′ : List ℕ} {top j : ℕ} (used x : ℕ) → Putting h from seen stack height seen′ stack′ top j
+pub stack-room : {h : Heap} {from : ℕ} {seen stack : List ℕ} {height : ℕ} {seen′ stack′ : List ℕ} {top j : ℕ} (used x : ℕ)
+    → Putting h from seen stack height seen′ stack′ top j
     → length h ≡ used → Roomy used seen stack height → x < used → (Seen seen′ x → ⊥) → (x < length seen′) × (top < used) × (top < length stack′)
 stack-room {h} {seen = seen} {height = height} {seen′ = seen′} {top = top} used x p sized roomy lt other =
     let there : x < length seen′ = omega (arith, p .same-seen, roomy .long) in
-    let some = unmarked-less (length h) x seen′ (omega arith) there other in
-    let count : height + unmarked (length h) seen ≤ used = subst (λ (k : ℕ). height + unmarked k seen ≤ used) (sym sized) (roomy .count) in
+    let some = unseen-less (length h) x seen′ (omega arith) there other in
+    let count : height + unseen (length h) seen ≤ used = subst (λ (k : ℕ). height + unseen k seen ≤ used) (sym sized) (roomy .count) in
     let low : top < used = omega (arith, p .sum, some, count) in
     (there, low, omega (arith, low, p .same-stack, roomy .high))
 
 -- no more than all are not marked
-pub unmarked-most : (n : ℕ) (marks : List ℕ) → unmarked n marks ≤ n
-unfolding unmarked missing
-unmarked-most zero marks = omega arith
-unmarked-most (suc n) marks = by (eqb (getD marks n 0) 1) (unmarked-most n marks)
+pub unseen-most : (n : ℕ) (seen : List ℕ) → unseen n seen ≤ n
+unfolding unseen missing
+unseen-most zero seen = omega arith
+unseen-most (suc n) seen = by (eqb (getD seen n 0) 1) (unseen-most n seen)
   where
-    by : (b : Bool) → unmarked n marks ≤ n → (elim b [ true ↦ 0 | false ↦ 1 ]) + unmarked n marks ≤ suc n
+    by : (b : Bool) → unseen n seen ≤ n → (elim b [ true ↦ 0 | false ↦ 1 ]) + unseen n seen ≤ suc n
     by true le = omega arith
     by false le = omega arith
 
-module _ {h : Heap} {from : ℕ} {seen stack : List ℕ} {height : ℕ} {seen′ stack′ : List ℕ} {top : ℕ} (used : ℕ) (p : Put h from seen stack height seen′ stack′ top) (sized : length h ≡ used) where
+module _ {h : Heap} {from : ℕ} {seen stack : List ℕ} {height : ℕ} {seen′ stack′ : List ℕ} {top : ℕ} (used : ℕ)
+    (p : Put h from seen stack height seen′ stack′ top) (sized : length h ≡ used) where
   -- the sum stays
-  pub put-sum : top + unmarked used seen′ ≡ height + unmarked used seen
-  put-sum = subst (λ (k : ℕ). top + unmarked k seen′ ≡ height + unmarked k seen) sized (p .sum)
+  pub put-sum : top + unseen used seen′ ≡ height + unseen used seen
+  put-sum = subst (λ (k : ℕ). top + unseen k seen′ ≡ height + unseen k seen) sized (p .sum)
 
   -- and so does the room
   pub put-room : Roomy used seen stack height → Roomy used seen′ stack′ top
   put-room r = record { long = omega (arith, p .same-seen, r .long); high = omega (arith, p .same-stack, r .high); count = omega (arith, put-sum, r .count) }
 
 -- what the code answers in the end
-pub search-says : (h : Heap) (n : ℕ) (seen stack : List ℕ) (v : ℕ) → Searching h n (λ y. ⊥) seen stack 0 → AllSeen h seen n → n < length h → v ≡ getD seen n 0 → eqb v 1 ≡ returns h n
+pub search-says : (h : Heap) (n : ℕ) (seen stack : List ℕ) (v : ℕ) → Searching h n (λ y. ⊥) seen stack 0 → AllSeen h seen n → n < length h
+    → v ≡ getD seen n 0 → eqb v 1 ≡ returns h n
 search-says h n seen stack v s all lt is = by (ℕ-discrete v 1)
   where
     by : Dec (v ≡ 1) → eqb v 1 ≡ returns h n

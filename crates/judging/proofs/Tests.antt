@@ -10,16 +10,10 @@ use lib.ListN.{getD}
 use Rattle.symbols.specs.Symbols.{Symbols}
 use Rattle.nodes.specs.Nodes.{Heap}
 use Rattle.sorts.specs.Sorts.{sortOf}
-use Rattle.accepted.specs.Faults.{returns, misfit}
-use Rattle.accepted.proofs.Circles.{finite-returns}
-use Rattle.accepted.proofs.Reaches.{returns-path, not-passed}
+use Rattle.accepted.specs.Faults.{misfit}
+use Rattle.accepted.proofs.Reaches.{not-passed}
 use Rattle.accepted.proofs.Misfits.{Misfit, misfit-is, is-misfit}
-use Rattle.judging.specs.Marks.{Ended}
 use Rattle.judging.specs.Sorts.{several, Met, Says, AllMet}
-
--- no path returns to a marked node
-pub ended-returns : (h : Heap) (marks : List ℕ) → Ended h marks → (n : ℕ) → getD marks n 0 ≡ 1 → returns h n ≡ false
-ended-returns h marks ended n is = not-passed (returns h n) (λ e. finite-returns (ended .right .ends n is) (returns-path h n e))
 
 module _ (S : Symbols) (h : Heap) (met : List ℕ) (all : AllMet S h met) (n s : ℕ) where
   -- where nothing is said, or this sort alone, it fits
@@ -29,7 +23,15 @@ module _ (S : Symbols) (h : Heap) (met : List ℕ) (all : AllMet S h met) (n s :
       by : (getD met n 0 ≡ 0) ⊎ (getD met n 0 ≡ suc s) → Misfit S h n s → ⊥
       by said x =
           go (sortOf S (x .symbol)) (x .other) said
-          (all .all n (sortOf S (x .symbol)) (record { node = x .node; symbol = x .symbol; arguments = x .arguments; meets = x .meets; is = x .is; known = x .known; sorted = refl }))
+          (all .all n (sortOf S (x .symbol)) (record {
+            node = x .node;
+            symbol = x .symbol;
+            arguments = x .arguments;
+            meets = x .meets;
+            is = x .is;
+            known = x .known;
+            sorted = refl;
+          }))
         where
           go : (t : ℕ) → t ≢ s → (getD met n 0 ≡ 0) ⊎ (getD met n 0 ≡ suc s) → (getD met n 0 ≡ suc t) ⊎ (getD met n 0 ≡ several) → ⊥
           go t o (inl q) (inl r) = omega (arith, q, r)

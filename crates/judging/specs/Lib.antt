@@ -1,3 +1,5 @@
-pub mod Marks
-pub mod Sorts
+pub mod First
 pub mod Search
+pub mod Ranks
+pub mod Sorts
+pub mod Words

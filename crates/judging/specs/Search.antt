@@ -1,16 +1,30 @@
 -- A search from a node: which nodes are seen, and which of them wait on a stack for their arrows to be looked at.
+use mathlib.Core.Bool.{Bool, true, false, _&&_, not}
 use mathlib.Core.List.{List}
 use mathlib.Core.Logic.{_⊎_}
 use mathlib.Core.Path.{_≡_}
-use Prim.Native.Nat.{ℕ, _+_, _<_, _≤_}
+use Prim.Native.Nat.{ℕ, zero, suc, _+_, _<_, _≤_}
+use lib.Dec.{ltb, eqb}
 use lib.ListN.{length, getD}
 use Rattle.nodes.specs.Nodes.{Heap, at}
 use Rattle.rewriting.specs.Paths.{Arrow}
 use Rattle.accepted.specs.Accepted.{Path}
-use Rattle.judging.specs.Marks.{unmarked}
 
+-- a row of numbers, 1 where a node is seen
 abbrev pub Seen : List ℕ → ℕ → Type 0
 Seen seen x = getD seen x 0 ≡ 1
+
+-- node x is one of the first `used`, and not seen
+unfoldable pub isUnseen : ℕ → List ℕ → ℕ → Bool
+isUnseen used seen x = ltb x used && not (eqb (getD seen x 0) 1)
+
+-- how many of the first `used` are not seen
+unfoldable pub missing : ℕ → ℕ
+missing v = elim (eqb v 1) [ true ↦ 0 | false ↦ 1 ]
+
+unfoldable pub unseen : ℕ → List ℕ → ℕ
+unseen zero seen = 0
+unseen (suc n) seen = missing (getD seen n 0) + unseen n seen
 
 -- all nodes that y has arrows to are seen
 pub record AllSeen (h : Heap) (seen : List ℕ) (y : ℕ) : Type 0 where
@@ -30,13 +44,13 @@ pub record Searching (h : Heap) (n : ℕ) (Pending : ℕ → Type 0) (seen stack
 pub record Roomy (used : ℕ) (seen stack : List ℕ) (height : ℕ) : Type 0 where
   pub long : used ≤ length seen
   pub high : used ≤ length stack
-  pub count : height + unmarked used seen ≤ used
+  pub count : height + unseen used seen ≤ used
 
 -- the arrows of node `from` have been looked at
 pub record Put (h : Heap) (from : ℕ) (seen stack : List ℕ) (height : ℕ) (seen′ stack′ : List ℕ) (height′ : ℕ) : Type 0 where
   pub same-seen : length seen′ ≡ length seen
   pub same-stack : length stack′ ≡ length stack
-  pub sum : height′ + unmarked (length h) seen′ ≡ height + unmarked (length h) seen
+  pub sum : height′ + unseen (length h) seen′ ≡ height + unseen (length h) seen
   pub more : (x : ℕ) → Seen seen x → Seen seen′ x
   pub all : AllSeen h seen′ from
   pub goes : (n : ℕ) → (from ≡ n) ⊎ Path h n from → Searching h n (λ y. y ≡ from) seen stack height → Searching h n (λ y. ⊥) seen′ stack′ height′

@@ -1,15 +1,15 @@
 -- Which sorts the applies have that are met from each node, as the check's code keeps it: 0 none is met, 1 + t one of sort t and no other, 257 some of
 -- several sorts.
-use mathlib.Core.Bool.{Bool, true, false}
-use mathlib.Core.List.{List}
+use mathlib.Core.Bool.{Bool, true, false, _&&_, _||_, not}
+use mathlib.Core.List.{List, [], _∷_}
 use mathlib.Core.Logic.{_⊎_, _≢_}
 use mathlib.Core.Path.{_≡_}
-use Prim.Native.Nat.{ℕ, zero, suc, _+_, _<_}
-use lib.Dec.{ltb, eqb}
+use Prim.Native.Nat.{ℕ, zero, suc, _+_, _<_, _≤_}
+use lib.Dec.{leb, ltb, eqb}
 use lib.ListN.{length, getD}
 use Rattle.symbols.specs.Symbols.{Symbols}
 use Rattle.nodes.specs.Nodes.{Node, apply, choice, fail, forward, Heap, at}
-use Rattle.sorts.specs.Sorts.{sortOf}
+use Rattle.sorts.specs.Sorts.{sortOf, argumentsOf}
 use Rattle.accepted.specs.Accepted.{Meets}
 
 abbrev pub several : ℕ
@@ -59,6 +59,12 @@ unfoldable pub allLeft : ℕ → List ℕ → ℕ
 allLeft zero met = 0
 allLeft (suc n) met = leftOf (getD met n 0) + allLeft n met
 
+-- what is said anew of some nodes comes to
+pub record MetMore (S : Symbols) (h : Heap) (before after : List ℕ) : Type 0 where
+  pub long : length after ≡ length before
+  pub says : (n : ℕ) → Says (Met S h n) (getD after n 0)
+  pub least : allLeft (length h) after ≤ allLeft (length h) before
+
 -- what one pass comes to
 pub record MetPassed (S : Symbols) (h : Heap) (before after : List ℕ) (changed : Bool) : Type 0 where
   pub long : length after ≡ length before
@@ -66,3 +72,22 @@ pub record MetPassed (S : Symbols) (h : Heap) (before after : List ℕ) (changed
   pub fewer : changed ≡ true → allLeft (length h) after < allLeft (length h) before
   pub same : changed ≡ false → after ≡ before
   pub closed : changed ≡ false → (n : ℕ) → n < length h → metBy S after (getD after n 0) (at h n) ≡ getD after n 0
+
+-- ---- the tests of a node, by what is said
+
+-- an apply of another sort than s is said to be met
+unfoldable pub unfit : ℕ → ℕ → Bool
+unfit said s = not (eqb said 0) && not (eqb said (suc s))
+
+-- at some argument
+unfoldable pub someUnfit : List ℕ → List ℕ → List ℕ → Bool
+someUnfit met [] ss = false
+someUnfit met (x ∷ xs) [] = false
+someUnfit met (x ∷ xs) (s ∷ ss) = unfit (getD met x 0) s || someUnfit met xs ss
+
+-- what is wrong at a node itself
+unfoldable pub wrongBy : Symbols → ℕ → List ℕ → Node → Bool
+wrongBy S k met (apply f xs) = leb (length S) f || someUnfit met xs (argumentsOf S f)
+wrongBy S k met (choice i l r) = leb k i
+wrongBy S k met fail = false
+wrongBy S k met (forward m) = false

@@ -8,9 +8,8 @@ use lib.ListN.{length, getD}
 use Rattle.symbols.specs.Table.{symbolsIn}
 use Rattle.accepted.specs.Read.{heapIn}
 use Rattle.accepted.proofs.Judged.{heap-sized}
-use Rattle.judging.specs.Marks.{unmarked}
-use Rattle.judging.specs.Search.{AllSeen, Searching, Roomy}
-use Rattle.judging.proofs.Searched.{pop, unseen, all-on, unmarked-most, put-sum, put-room, search-says}
+use Rattle.judging.specs.Search.{unseen, AllSeen, Searching, Roomy}
+use Rattle.judging.proofs.Searched.{pop, nothing-seen, all-on, unseen-most, put-sum, put-room, search-says}
 use Rattle.judging.proofs.comes_back.Statement.{statement}
 use Rattle.judging.proofs.comes_back.Tie as tie
 
@@ -20,11 +19,12 @@ Inv-loop book table nodes used n seen₀ stack₀ height₀ seen stack height =
     Roomy used seen stack height × Searching h n (λ y. ⊥) seen stack height × AllSeen h seen n × (length seen ≡ length seen₀) × (length stack ≡ length stack₀)
 
 abbrev μ-loop : tie.MeasureT-loop
-μ-loop book table nodes used n seen₀ stack₀ height₀ seen stack height = height + unmarked used seen
+μ-loop book table nodes used n seen₀ stack₀ height₀ seen stack height = height + unseen used seen
 
 -- src/lib.rt:232:9
 put-arrows-requires : tie.Need-put-arrows-requires Inv-loop μ-loop
-put-arrows-requires c κs = let start = c .before .before .before .before .before .before .before in let a = start .args in (record { long = start .pre .0; high = start .pre .1; count = omega (arith, unmarked-most (a .used) (a .seen .now)) }, start .pre .2, start .pre .3)
+put-arrows-requires c κs = let start = c .before .before .before .before .before .before .before in let a = start .args in
+    (record { long = start .pre .0; high = start .pre .1; count = omega (arith, unseen-most (a .used) (a .seen .now)) }, start .pre .2, start .pre .3)
 
 -- src/lib.rt:233:5
 loop-holds : tie.Need-loop-holds Inv-loop μ-loop
@@ -35,8 +35,13 @@ loop-holds c =
     let h = heapIn S (a .nodes .now) (a .used) in
     let sized : length h ≡ a .used = heap-sized S (a .nodes .now) (a .used) in
     let put = c .before .before .before .before .put-arrows .ensures in
-    let roomy : Roomy (a .used) (a .seen .now) (a .stack .now) 0 = record { long = start .pre .0; high = start .pre .1; count = omega (arith, unmarked-most (a .used) (a .seen .now)) } in
-    (put-room (a .used) put sized roomy, put .goes (a .n) (inl refl) (unseen (start .pre .4)), put .all, refl, refl)
+    let roomy : Roomy (a .used) (a .seen .now) (a .stack .now) 0 = record {
+      long = start .pre .0;
+      high = start .pre .1;
+      count = omega
+          (arith, unseen-most (a .used) (a .seen .now));
+    } in
+    (put-room (a .used) put sized roomy, put .goes (a .n) (inl refl) (nothing-seen (start .pre .4)), put .all, refl, refl)
 
 -- src/lib.rt:234:9
 sub-height : tie.Need-sub-height Inv-loop μ-loop
@@ -44,7 +49,8 @@ sub-height c = search needs
 
 -- src/lib.rt:235:20
 mul-next : tie.Need-mul-next Inv-loop μ-loop
-mul-next c = let l = c .before .loop in omega (arith, l .inv .0 .count, c .before .before .before .before .before .before .before .before .before .before .before .before .before .before .pre .3)
+mul-next c = let l = c .before .loop in omega
+    (arith, l .inv .0 .count, c .before .before .before .before .before .before .before .before .before .before .before .before .before .before .pre .3)
 
 -- src/lib.rt:235:20
 slice-read-next : tie.Need-slice-read-next Inv-loop μ-loop
@@ -60,13 +66,15 @@ put-arrows-requires-2 c κs =
     let sized : length h ≡ a .used = heap-sized S (a .nodes .now) (a .used) in
     let l = c .before .before .before .before .loop in
     let r = l .inv .0 in
-    let reached = l .inv .1 .reached (getD (l .stack) (l .height - 1) 0) (l .inv .1 .stacked (l .height - 1) (omega (arith, c .before .before .before .loop-test .taken))) in
+    let reached = l .inv .1 .reached (getD (l .stack) (l .height - 1) 0)
+    (l .inv .1 .stacked (l .height - 1) (omega (arith, c .before .before .before .loop-test .taken))) in
     (record { long = r .long; high = r .high; count = omega (arith, r .count) }, omega (arith, reached .0, sized), start .pre .3)
 
 -- src/lib.rt:233:5
 loop-less : tie.Need-loop-less Inv-loop μ-loop
 loop-less c =
-    let start = c .before .before .before .before .before .before .before .before .before .before .before .before .before .before .before .before .before .before .before .before .before .before in
+    let looped = c .before .before .before .before .before .before .before .before .before in
+    let start = looped .before .before .before .before .before .before .before .before .before .before .before .before .before in
     let a = start .args in
     let S = symbolsIn (a .book .now) (a .table .now) in
     let h = heapIn S (a .nodes .now) (a .used) in
@@ -78,7 +86,8 @@ loop-less c =
 -- src/lib.rt:233:5
 loop-again : tie.Need-loop-again Inv-loop μ-loop
 loop-again c =
-    let start = c .before .before .before .before .before .before .before .before .before .before .before .before .before .before .before .before .before .before .before .before .before .before in
+    let looped = c .before .before .before .before .before .before .before .before .before in
+    let start = looped .before .before .before .before .before .before .before .before .before .before .before .before .before in
     let a = start .args in
     let S = symbolsIn (a .book .now) (a .table .now) in
     let h = heapIn S (a .nodes .now) (a .used) in
@@ -107,7 +116,10 @@ mul-result c = omega (arith, c .wide .ensures .1)
 
 -- src/lib.rt:238:5
 slice-read-result : tie.Need-slice-read-result Inv-loop μ-loop
-slice-read-result c = let l = c .before .before .before .loop in let start = c .before .before .before .before .before .before .before .before .before .before .before .before .before .before .before .before in omega (arith, c .before .wide .ensures .0, l .inv .0 .long, start .pre .2)
+slice-read-result c =
+    let l = c .before .before .before .loop in
+    let start = c .before .before .before .before .before .before .before .before .before .before .before .before .before .before .before .before in
+    omega (arith, c .before .wide .ensures .0, l .inv .0 .long, start .pre .2)
 
 -- src/lib.rt:220:1
 same-length : tie.Need-same-length Inv-loop μ-loop
@@ -127,7 +139,8 @@ returns c =
     let sized : length h ≡ a .used = heap-sized S (a .nodes .now) (a .used) in
     let l = c .before .before .before .loop in
     let last = subst (Searching h (a .n) (λ y. ⊥) (l .seen) (l .stack)) (c .before .before .loop-test .left) (l .inv .1) in
-    search-says h (a .n) (l .seen) (l .stack) _ last (l .inv .2) (omega (arith, sized, start .pre .2)) (ap (λ (i : ℕ). getD (l .seen) i 0) (c .before .wide .ensures .0))
+    search-says h (a .n) (l .seen) (l .stack) _ last (l .inv .2) (omega (arith, sized, start .pre .2))
+    (ap (λ (i : ℕ). getD (l .seen) i 0) (c .before .wide .ensures .0))
 
 pub comes-back-spec : {M : Type 1} → statement M
 comes-back-spec =

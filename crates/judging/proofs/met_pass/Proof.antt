@@ -15,7 +15,8 @@ use Rattle.judging.proofs.met_pass.Statement.{statement}
 use Rattle.judging.proofs.met_pass.Tie as tie
 
 abbrev Inv-loop : tie.InvT-loop
-Inv-loop book table nodes used met₀ changed₀ n₀ met changed n = (n ≤ used) × Meeting (symbolsIn book table) (heapIn (symbolsIn book table) nodes used) met₀ met changed n
+Inv-loop book table nodes used met₀ changed₀ n₀ met changed n = (n ≤ used) × Meeting (symbolsIn book table)
+    (heapIn (symbolsIn book table) nodes used) met₀ met changed n
 
 abbrev μ-loop : tie.MeasureT-loop
 μ-loop book table nodes used met₀ changed₀ n₀ met changed n = n
@@ -27,8 +28,11 @@ loop-holds c =
     let a = start .args in
     let S = symbolsIn (a .book .now) (a .table .now) in
     let h = heapIn S (a .nodes .now) (a .used) in
-    let sized : length h ≡ a .used = heap-sized S (a .nodes .now) (a .used) in
-    (omega arith, subst (Meeting S h (a .met .now) (a .met .now) false) sized (meeting-first S h (a .met .now) (omega (arith, sized, start .pre .0)) (start .pre .3)))
+    let sized : length h ≡ a .used = heap-sized S (a .nodes .now) (a .used) in (
+      omega arith,
+      subst (Meeting S h (a .met .now) (a .met .now) false) sized
+          (meeting-first S h (a .met .now) (omega (arith, sized, start .pre .0)) (start .pre .3)),
+    )
 
 -- src/lib.rt:166:9
 sub-n : tie.Need-sub-n Inv-loop μ-loop
@@ -48,15 +52,19 @@ mul-if1 c = omega (arith, c .before .before .before .loop .inv .0, c .before .be
 
 -- src/lib.rt:168:19
 slice-read-if1 : tie.Need-slice-read-if1 Inv-loop μ-loop
-slice-read-if1 c = let l = c .before .before .before .before .loop in omega (arith, l .inv .1 .down, l .inv .1 .room, c .before .before .before .loop-test .taken)
+slice-read-if1 c = let l = c .before .before .before .before .loop in omega
+    (arith, l .inv .1 .down, l .inv .1 .room, c .before .before .before .loop-test .taken)
 
 -- src/lib.rt:169:13
 mul-met : tie.Need-mul-met Inv-loop μ-loop
-mul-met c = omega (arith, c .before .before .before .before .before .loop .inv .0, c .before .before .before .before .before .before .before .before .before .before .pre .1)
+mul-met c =
+    let looped = c .before .before .before .before .before in
+    omega (arith, looped .loop .inv .0, looped .before .before .before .before .before .pre .1)
 
 -- src/lib.rt:169:13
 slice-write-met : tie.Need-slice-write-met Inv-loop μ-loop
-slice-write-met c = let l = c .before .before .before .before .before .loop in omega (arith, l .inv .1 .down, l .inv .1 .room, c .before .before .before .before .loop-test .taken)
+slice-write-met c = let l = c .before .before .before .before .before .loop in omega
+    (arith, l .inv .1 .down, l .inv .1 .room, c .before .before .before .before .loop-test .taken)
 
 -- src/lib.rt:165:5
 loop-less : tie.Need-loop-less Inv-loop μ-loop
@@ -74,7 +82,8 @@ loop-again c =
     let meeting = subst (Meeting S h (a .met .now) (l .met) (l .changed)) one (l .inv .1) in
     let inside : l .n - 1 < a .used = omega (arith, l .inv .0) in
     let new = c .before .before .met-at in
-    let said = new .ensures ∙ ap (λ (x : Node). metBy S (l .met) (getD (l .met) (l .n - 1) 0) x) (sym (heap-at S (a .nodes .now) (a .used) (l .n - 1) inside)) in
+    let said = new .ensures ∙ ap (λ (x : Node). metBy S (l .met) (getD (l .met) (l .n - 1) 0) x)
+    (sym (heap-at S (a .nodes .now) (a .used) (l .n - 1) inside)) in
     (omega (arith, l .inv .0), meeting-mark S (start .pre .2) meeting (new .result) said (c .if1 .taken))
 
 -- src/lib.rt:165:5
@@ -93,7 +102,8 @@ loop-again-2 c =
     let meeting = subst (Meeting S h (a .met .now) (l .met) (l .changed)) one (l .inv .1) in
     let inside : l .n - 1 < a .used = omega (arith, l .inv .0) in
     let new = c .before .before .met-at in
-    let said = new .ensures ∙ ap (λ (x : Node). metBy S (l .met) (getD (l .met) (l .n - 1) 0) x) (sym (heap-at S (a .nodes .now) (a .used) (l .n - 1) inside)) in
+    let said = new .ensures ∙ ap (λ (x : Node). metBy S (l .met) (getD (l .met) (l .n - 1) 0) x)
+    (sym (heap-at S (a .nodes .now) (a .used) (l .n - 1) inside)) in
     (omega (arith, l .inv .0), meeting-on S (start .pre .2) meeting (sym said ∙ c .if1 .left))
 
 -- src/lib.rt:159:1

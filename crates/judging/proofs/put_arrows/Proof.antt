@@ -11,13 +11,14 @@ use Rattle.accepted.specs.Read.{nodeIn, heapIn}
 use Rattle.accepted.specs.Faults.{arrowsOf}
 use Rattle.accepted.proofs.Judged.{heap-at, heap-sized}
 use Rattle.judging.proofs.Arrows.{nth-arrow}
-use Rattle.judging.proofs.Peeling.{not-open}
-use Rattle.judging.proofs.Searched.{Putting, putting-first, putting-on, putting-push, putting-last, is-open, stack-room}
+use Rattle.judging.proofs.Unseen.{not-unseen}
+use Rattle.judging.proofs.Searched.{Putting, putting-first, putting-on, putting-push, putting-last, is-unseen, stack-room}
 use Rattle.judging.proofs.put_arrows.Statement.{statement}
 use Rattle.judging.proofs.put_arrows.Tie as tie
 
 abbrev Inv-loop : tie.InvT-loop
-Inv-loop book table nodes used from seen₀ stack₀ height many j₀ top₀ seen stack j top = (j ≤ many) × Putting (heapIn (symbolsIn book table) nodes used) from seen₀ stack₀ height seen stack top j
+Inv-loop book table nodes used from seen₀ stack₀ height many j₀ top₀ seen stack j top = (j ≤ many) × Putting
+    (heapIn (symbolsIn book table) nodes used) from seen₀ stack₀ height seen stack top j
 
 abbrev μ-loop : tie.MeasureT-loop
 μ-loop book table nodes used from seen₀ stack₀ height many j₀ top₀ seen stack j top = many - j
@@ -28,7 +29,11 @@ arrows-at-requires c κs = search needs
 
 -- src/lib.rt:205:5
 loop-holds : tie.Need-loop-holds Inv-loop μ-loop
-loop-holds c = let a = c .before .before .before .before .before .before .args in (omega arith, putting-first (heapIn (symbolsIn (a .book .now) (a .table .now)) (a .nodes .now) (a .used)) (a .from) (a .seen .now) (a .stack .now) (a .height))
+loop-holds c = let a = c .before .before .before .before .before .before .args in (
+  omega arith,
+  putting-first (heapIn (symbolsIn (a .book .now) (a .table .now)) (a .nodes .now) (a .used)) (a .from) (a .seen .now) (a .stack .now)
+      (a .height),
+)
 
 -- src/lib.rt:206:20
 cast-slot : tie.Need-cast-slot Inv-loop μ-loop
@@ -43,8 +48,8 @@ wide-requires : tie.Need-wide-requires Inv-loop μ-loop
 wide-requires c κs = search needs
 
 -- src/lib.rt:209:12
-is-open-requires : tie.Need-is-open-requires Inv-loop μ-loop
-is-open-requires c κs = search needs
+is-unseen-requires : tie.Need-is-unseen-requires Inv-loop μ-loop
+is-unseen-requires c κs = search needs
 
 -- src/lib.rt:210:13
 mul-seen : tie.Need-mul-seen Inv-loop μ-loop
@@ -57,8 +62,8 @@ mul-seen c =
     let h = heapIn S m (a .used) in
     let sized : length h ≡ a .used = heap-sized S m (a .used) in
     let x = c .before .before .before .wide in
-    let test = c .before .is-open in
-    let (inside, other) = is-open (a .used) (x .result) (l .seen) (sym (test .ensures) ∙ c .if1 .taken) in
+    let test = c .before .is-unseen in
+    let (inside, other) = is-unseen (a .used) (x .result) (l .seen) (sym (test .ensures) ∙ c .if1 .taken) in
     let (there, low, room) = stack-room (a .used) (x .result) (l .inv .1) sized (start .pre .0) inside other in
     omega (arith, inside, low, start .pre .2)
 
@@ -73,8 +78,8 @@ slice-write-seen c =
     let h = heapIn S m (a .used) in
     let sized : length h ≡ a .used = heap-sized S m (a .used) in
     let x = c .before .before .before .wide in
-    let test = c .before .is-open in
-    let (inside, other) = is-open (a .used) (x .result) (l .seen) (sym (test .ensures) ∙ c .if1 .taken) in
+    let test = c .before .is-unseen in
+    let (inside, other) = is-unseen (a .used) (x .result) (l .seen) (sym (test .ensures) ∙ c .if1 .taken) in
     let (there, low, room) = stack-room (a .used) (x .result) (l .inv .1) sized (start .pre .0) inside other in
     there
 
@@ -89,8 +94,8 @@ mul-stack c =
     let h = heapIn S m (a .used) in
     let sized : length h ≡ a .used = heap-sized S m (a .used) in
     let x = c .before .before .before .wide in
-    let test = c .before .is-open in
-    let (inside, other) = is-open (a .used) (x .result) (l .seen) (sym (test .ensures) ∙ c .if1 .taken) in
+    let test = c .before .is-unseen in
+    let (inside, other) = is-unseen (a .used) (x .result) (l .seen) (sym (test .ensures) ∙ c .if1 .taken) in
     let (there, low, room) = stack-room (a .used) (x .result) (l .inv .1) sized (start .pre .0) inside other in
     omega (arith, inside, low, start .pre .2)
 
@@ -105,8 +110,8 @@ slice-write-stack c =
     let h = heapIn S m (a .used) in
     let sized : length h ≡ a .used = heap-sized S m (a .used) in
     let x = c .before .before .before .wide in
-    let test = c .before .is-open in
-    let (inside, other) = is-open (a .used) (x .result) (l .seen) (sym (test .ensures) ∙ c .if1 .taken) in
+    let test = c .before .is-unseen in
+    let (inside, other) = is-unseen (a .used) (x .result) (l .seen) (sym (test .ensures) ∙ c .if1 .taken) in
     let (there, low, room) = stack-room (a .used) (x .result) (l .inv .1) sized (start .pre .0) inside other in
     room
 
@@ -121,8 +126,8 @@ add-top c =
     let h = heapIn S m (a .used) in
     let sized : length h ≡ a .used = heap-sized S m (a .used) in
     let x = c .before .before .before .wide in
-    let test = c .before .is-open in
-    let (inside, other) = is-open (a .used) (x .result) (l .seen) (sym (test .ensures) ∙ c .if1 .taken) in
+    let test = c .before .is-unseen in
+    let (inside, other) = is-unseen (a .used) (x .result) (l .seen) (sym (test .ensures) ∙ c .if1 .taken) in
     let (there, low, room) = stack-room (a .used) (x .result) (l .inv .1) sized (start .pre .0) inside other in
     omega (arith, inside, low, start .pre .2)
 
@@ -145,22 +150,25 @@ loop-again c =
     let h = heapIn S m (a .used) in
     let sized : length h ≡ a .used = heap-sized S m (a .used) in
     let x = c .before .before .before .wide in
-    let test = c .before .is-open in
+    let test = c .before .is-unseen in
     let many = c .before .before .before .before .before .before .before .arrows-at in
     let node : at h (a .from) ≡ nodeIn S m (a .from) = heap-at S m (a .used) (a .from) (start .pre .1) in
     let count : length (arrowsOf (at h (a .from))) ≡ many .result = ap (λ (y : Node). length (arrowsOf y)) node ∙ sym (many .ensures .0) in
     let within : l .j < length (arrowsOf (at h (a .from))) = omega (arith, count, c .before .before .before .before .before .loop-test .taken) in
     let arrow : getD (arrowsOf (at h (a .from))) (l .j) 0 ≡ x .result =
-    ap (λ (y : Node). getD (arrowsOf y) (l .j) 0) node ∙ nth-arrow (a .book .now) (a .table .now) m (a .from) (l .j) (omega (arith, within, count, many .ensures .0)) ∙ sym (c .before .before .before .before .arrow-at .ensures) ∙ sym (x .ensures .0) in (
+    ap (λ (y : Node). getD (arrowsOf y) (l .j) 0) node ∙ nth-arrow (a .book .now) (a .table .now) m (a .from) (l .j)
+    (omega (arith, within, count, many .ensures .0)) ∙ sym (c .before .before .before .before .arrow-at .ensures) ∙ sym (x .ensures .0) in (
       omega (arith, c .before .before .before .before .before .loop-test .taken),
       ⊎-elim
           (λ w.
-          let (inside, other) = is-open (a .used) (x .result) (l .seen) (sym (test .ensures) ∙ w .0 .taken) in
+          let (inside, other) = is-unseen (a .used) (x .result) (l .seen) (sym (test .ensures) ∙ w .0 .taken) in
           let (there, low, room) = stack-room (a .used) (x .result) (l .inv .1) sized (start .pre .0) inside other in
           rw (w .1, w .2, w .3)
-          (subst (λ (v : ℕ). Putting h (a .from) (a .seen .now) (a .stack .now) (a .height) (set (l .seen) (x .result) 1) (set (l .stack) (l .top) v) (l .top + 1) (l .j + 1)) (x .ensures .0)
+          (subst (λ (v : ℕ). Putting h (a .from) (a .seen .now) (a .stack .now) (a .height) (set (l .seen) (x .result) 1) (set (l .stack) (l .top) v)
+          (l .top + 1) (l .j + 1)) (x .ensures .0)
           (putting-push (l .inv .1) (x .result) arrow within (omega (arith, inside, sized)) there room other)))
-          (λ w. rw (w .1, w .2, w .3) (putting-on (l .inv .1) (x .result) arrow (λ lt. not-open (a .used) (x .result) (l .seen) (sym (test .ensures) ∙ w .0 .left) (omega (arith, lt, sized)))))
+          (λ w. rw (w .1, w .2, w .3) (putting-on (l .inv .1) (x .result) arrow
+          (λ lt. not-unseen (a .used) (x .result) (l .seen) (sym (test .ensures) ∙ w .0 .left) (omega (arith, lt, sized)))))
           (c .if1 .came),
     )
 
@@ -182,7 +190,8 @@ returns c =
     let m = a .nodes .now in
     let h = heapIn S m (a .used) in
     let many = c .before .before .arrows-at in
-    let count : length (arrowsOf (at h (a .from))) ≡ many .result = ap (λ (y : Node). length (arrowsOf y)) (heap-at S m (a .used) (a .from) (start .pre .1)) ∙ sym (many .ensures .0) in
+    let count : length (arrowsOf (at h (a .from))) ≡ many .result = ap (λ (y : Node). length (arrowsOf y))
+    (heap-at S m (a .used) (a .from) (start .pre .1)) ∙ sym (many .ensures .0) in
     putting-last (l .inv .1) (omega (arith, count, c .loop-test .left))
 
 pub put-arrows-spec : {M : Type 1} → statement M
@@ -196,7 +205,7 @@ put-arrows-spec =
     cast-slot
     arrow-at-requires
     wide-requires
-    is-open-requires
+    is-unseen-requires
     mul-seen
     slice-write-seen
     mul-stack
