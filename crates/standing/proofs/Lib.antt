@@ -1,3 +1,4 @@
+pub mod ShapeTests
 pub mod Unrolled
 pub mod Counted
 pub mod Layers
