@@ -2,4 +2,5 @@
 mod shapes;
 
 pub use shapes::arity_in;
+pub use shapes::fill_shapes;
 pub use shapes::is_operation_in;
