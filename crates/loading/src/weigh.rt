@@ -25,7 +25,13 @@ pub(crate) fn wide(length: u16) -> usize
 }
 
 // One question, which is number `number` of its row.
-pub fn weigh_question<'a>(book: &'a [u8], at: &[u16], shapes: &[u8; Limits::SYMBOLS], question: &'a [u8], number: usize) -> Weighed
+pub fn weigh_question<'a>(
+    book: &'a [u8],
+    at: &[u16],
+    shapes: &[u8; Limits::SYMBOLS],
+    question: &'a [u8],
+    number: usize,
+) -> Weighed
     ensures { λ r. ⌜ WeighTold (now (book .entry)) (now (at .entry)) (now (shapes .entry)) (now (question .entry)) number r ⌝ }
 {
     match read_question(book, at, question) {
@@ -76,7 +82,13 @@ fn refused_bytes(question: usize) -> Weighed
 }
 
 // A row of them: "the first bad question's number (bytes left over: the last's)". The next question begins at `from`.
-pub fn weigh_row<'a>(book: &'a [u8], at: &[u16], shapes: &[u8; Limits::SYMBOLS], lengths: &[u16], questions: &'a [u8]) -> Weighed
+pub fn weigh_row<'a>(
+    book: &'a [u8],
+    at: &[u16],
+    shapes: &[u8; Limits::SYMBOLS],
+    lengths: &[u16],
+    questions: &'a [u8],
+) -> Weighed
     ensures { λ r. ⌜ WeighRowTold (now (book .entry)) (now (at .entry)) (now (shapes .entry)) (now (lengths .entry)) (now (questions .entry)) r ⌝ }
 {
     let mut nodes: usize = 0;
@@ -88,13 +100,7 @@ pub fn weigh_row<'a>(book: &'a [u8], at: &[u16], shapes: &[u8; Limits::SYMBOLS],
         if questions.len() - from < size {
             return refused_bytes(i);
         }
-        let one = weigh_question(
-            book,
-            at,
-            shapes,
-            part_of(questions, from, from + size),
-            i,
-        );
+        let one = weigh_question(book, at, shapes, part_of(questions, from, from + size), i);
         if one.number != 0 {
             return one;
         }

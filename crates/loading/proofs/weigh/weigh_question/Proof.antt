@@ -1,0 +1,37 @@
+use borrow.Author.Needs.{needs}
+use Rattle.loading.proofs.QuestionsRead.{refused-weighed, read-weighed}
+use Rattle.loading.proofs.weigh.weigh_question.Statement.{statement}
+use Rattle.loading.proofs.weigh.weigh_question.Tie as tie
+use Rattle.loading.proofs.weigh.weigh_question.Reads as reads
+use Rattle.loading.proofs.weigh.weigh_question.Lts as lts
+use Rattle.book.proofs.read_question.Reads as read-question-reads
+use Rattle.making.proofs.size_expr.Reads as size-expr-reads
+
+-- src/weigh.rt:31:11
+read-question-requires : tie.Need-read-question-requires
+read-question-requires c κs = search needs
+
+-- src/weigh.rt:32:36
+enum-known-c : tie.Need-enum-known-c
+enum-known-c c = search needs
+
+-- src/weigh.rt:40:17
+enum-told : tie.Need-enum-told
+enum-told c = search needs
+
+-- src/weigh.rt:40:17
+size-expr-requires : tie.Need-size-expr-requires
+size-expr-requires c κs = search needs
+
+-- src/weigh.rt:28:1
+returns : tie.Need-returns
+returns c rules of = refused-weighed of _ _ (c .before .before .before .read-question .ensures)
+
+-- src/weigh.rt:28:1
+returns-2 : tie.Need-returns-2
+returns-2 c rules of = read-weighed of _ _ ? (c .size-expr .result) (c .size-expr .ensures)
+
+pub weigh-question-spec : {M : Type 1} → statement M
+weigh-question-spec =
+    tie.close
+    (tie.spec read-question-requires enum-known-c enum-told size-expr-requires returns returns-2)
