@@ -1,3 +1,5 @@
+use mathlib.Core.Path.{sym, ap, _∙_}
+use Rattle.reading.specs.Answer.{readingOf}
 use borrow.Author.Needs.{needs}
 use Rattle.loading.proofs.QuestionsRead.{refused-weighed, read-weighed}
 use Rattle.loading.proofs.weigh.weigh_question.Statement.{statement}
@@ -25,11 +27,19 @@ size-expr-requires c κs = search needs
 
 -- src/weigh.rt:28:1
 returns : tie.Need-returns
-returns c rules of = refused-weighed of _ _ (c .before .before .before .read-question .ensures)
+returns c rules of =
+    let a = c .before .before .before .before .before .before .before .args in
+    refused-weighed of (a .question .now) (a .number)
+    (sym (ap readingOf (c .before .c .given .1)) ∙ c .before .before .before .read-question .ensures)
 
 -- src/weigh.rt:28:1
 returns-2 : tie.Need-returns-2
-returns-2 c rules of = read-weighed of _ _ ? (c .size-expr .result) (c .size-expr .ensures)
+returns-2 c rules of =
+    let a = c .before .before .before .before .before .before .before .args in
+    read-weighed of (a .question .now) (a .number)
+    (sym (ap readingOf (c .before .enum-told .given .1)) ∙ c .before .before .before .read-question .ensures)
+    (c .size-expr .result)
+    (c .size-expr .ensures)
 
 pub weigh-question-spec : {M : Type 1} → statement M
 weigh-question-spec =
