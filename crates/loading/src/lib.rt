@@ -2,6 +2,7 @@
 mod make;
 mod weigh;
 
+pub use make::Questions;
 pub use make::load_question;
 pub use make::load_row;
 pub use weigh::Weighed;

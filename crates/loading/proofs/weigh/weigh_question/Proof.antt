@@ -1,38 +1,29 @@
+-- `weigh_question` meets its contract: what was read stands in the question from place 4 on, and its size is told there.
 use mathlib.Core.Path.{sym, ap, _∙_}
 use Rattle.reading.specs.Answer.{readingOf}
 use borrow.Author.Needs.{needs}
 use Rattle.loading.proofs.QuestionsRead.{refused-weighed, read-weighed}
 use Rattle.loading.proofs.weigh.weigh_question.Statement.{statement}
 use Rattle.loading.proofs.weigh.weigh_question.Tie as tie
-use Rattle.loading.proofs.weigh.weigh_question.Reads as reads
-use Rattle.loading.proofs.weigh.weigh_question.Lts as lts
-use Rattle.book.proofs.read_question.Reads as read-question-reads
-use Rattle.making.proofs.size_expr.Reads as size-expr-reads
 
--- src/weigh.rt:31:11
 read-question-requires : tie.Need-read-question-requires
 read-question-requires c κs = search needs
 
--- src/weigh.rt:32:36
 enum-known-c : tie.Need-enum-known-c
 enum-known-c c = search needs
 
--- src/weigh.rt:40:17
 enum-told : tie.Need-enum-told
 enum-told c = search needs
 
--- src/weigh.rt:40:17
 size-expr-requires : tie.Need-size-expr-requires
 size-expr-requires c κs = search needs
 
--- src/weigh.rt:28:1
 returns : tie.Need-returns
 returns c rules of =
     let a = c .before .before .before .before .before .before .before .args in
     refused-weighed of (a .question .now) (a .number)
     (sym (ap readingOf (c .before .c .given .1)) ∙ c .before .before .before .read-question .ensures)
 
--- src/weigh.rt:28:1
 returns-2 : tie.Need-returns-2
 returns-2 c rules of =
     let a = c .before .before .before .before .before .before .before .args in
