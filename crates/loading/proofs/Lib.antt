@@ -1,0 +1,4 @@
+pub mod QuestionsRead
+pub mod RowsWeighed
+pub mod NodesLaid
+pub mod RowsLoaded
