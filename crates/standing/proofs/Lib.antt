@@ -1,3 +1,9 @@
+pub mod ShapeTests
+pub mod ShapeRows
+pub mod ShapesTold
+pub mod IndexHolds
+pub mod SortedReady
+pub mod ShortRules
 pub mod Unrolled
 pub mod Counted
 pub mod Layers
