@@ -22,7 +22,7 @@ no-mark : {A : Type 0} → _≡_ {A = Bool} false true → A
 no-mark e = absurd (let z : _≡_ {A = ℕ} 0 1 = cc in omega arith)
 
 module _ (to : ℕ → ℕ) where
-  at-kept : (ms : Marks) (h : Heap) (n : ℕ) → length ms ≡ length h → Marked ms n → at (keptBy to ms h) (movedTo ms n) ≡ redirected to (at h n)
+  pub at-kept : (ms : Marks) (h : Heap) (n : ℕ) → length ms ≡ length h → Marked ms n → at (keptBy to ms h) (movedTo ms n) ≡ redirected to (at h n)
   unfolding keptBy movedTo
   at-kept [] h n e m = no-mark m
   at-kept (b ∷ ms) [] n e m = absurd (omega arith)
@@ -31,7 +31,7 @@ module _ (to : ℕ → ℕ) where
   at-kept (false ∷ ms) (x ∷ h) zero e m = no-mark m
   at-kept (false ∷ ms) (x ∷ h) (suc n) e m = at-kept ms h n (omega arith) m
 
-  moved-inside : (ms : Marks) (h : Heap) (n : ℕ) → length ms ≡ length h → Marked ms n → movedTo ms n < length (keptBy to ms h)
+  pub moved-inside : (ms : Marks) (h : Heap) (n : ℕ) → length ms ≡ length h → Marked ms n → movedTo ms n < length (keptBy to ms h)
   unfolding keptBy movedTo
   moved-inside [] h n e m = no-mark m
   moved-inside (b ∷ ms) [] n e m = absurd (omega arith)

@@ -114,7 +114,7 @@ module _ (B : Book) (row : Bool) (room : Rooms) (alone : ℕ → Plain.State) (n
     refused : {c : ℕ} {T : State} → 21 < c → Stays T → LaterWithin row room T → Why c → Attempted (Later.refused c T)
 
 -- the front entry of a state at its turn
-attempted-is : (leaves : Following) (B : Book) (row : Bool) (room : Rooms) (S : State) {e : Entry} {rest : List Entry} → S .waiting ≡ e ∷ rest
+pub attempted-is : (leaves : Following) (B : Book) (row : Bool) (room : Rooms) (S : State) {e : Entry} {rest : List Entry} → S .waiting ≡ e ∷ rest
     → Later.attempted leaves B row room S ≡ Later.attempt leaves B row room S e rest
 unfolding Later.attempted
 attempted-is leaves B row room S front =

@@ -29,3 +29,4 @@ pub mod Instance
 pub mod RowReadBack
 pub mod Renumbering
 pub mod Shorts
+pub mod Lacking

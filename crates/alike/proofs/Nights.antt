@@ -55,7 +55,7 @@ unfolding andRow
 andRow-asked x (asked ys) xs e = (ys, refl, (let z = e in cc))
 andRow-asked x (bad c p q) xs e = absurd (let z : _≡_ {A = ℕ} 0 1 = cc in omega arith)
 
-row-read : (symbols : Symbols) (q : ℕ) (lengths bytes : List ℕ) (xs : List Expr) → readRow symbols q lengths bytes ≡ asked xs → All (Read symbols) xs
+pub row-read : (symbols : Symbols) (q : ℕ) (lengths bytes : List ℕ) (xs : List Expr) → readRow symbols q lengths bytes ≡ asked xs → All (Read symbols) xs
 unfolding readRow
 row-read symbols q [] bytes xs e = go (eqb (length bytes) 0) e
   where

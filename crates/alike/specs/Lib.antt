@@ -5,6 +5,7 @@ pub mod Asked
 pub mod RowRecords
 pub mod Turning
 pub mod Night
+pub mod Lacking
 pub mod LaterCases
 pub mod Alone
 pub mod EachQuestion

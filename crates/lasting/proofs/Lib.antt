@@ -1,0 +1,5 @@
+pub mod Shortcuts
+pub mod MovedDown
+pub mod PlainTurn
+pub mod Turns
+pub mod LoadedRows
