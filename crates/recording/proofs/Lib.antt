@@ -1,0 +1,3 @@
+pub mod RowBegun
+pub mod BitNumbers
+pub mod RecordParts
