@@ -1,7 +1,7 @@
 // What questions come to before anything is made.
 ghost use mathlib.Core.Path.{_≡_};
 ghost use Rattle.loading.specs.Questions.{WeighTold, WeighRowTold, SumTold, refusedAs};
-use book::read_question;
+use question::read_question;
 use limits::Limits;
 use making::size_expr;
 use reading::Reading;
