@@ -1,7 +1,7 @@
 //! The converter of request L9: any admitted book of version 1 as one of version 2, with a fail rule in each exempt spot.
 
 use crate::admit::{self, Expression, Tree};
-use crate::edges::{lengthy, two};
+use crate::lent::{lengthy, two};
 use crate::encode;
 use crate::expand::take_lengthy;
 use crate::make::{self, Made};

@@ -10,10 +10,13 @@ mod encode;
 mod evaluator;
 mod expand;
 mod figures;
+mod going;
 mod jobs;
+mod lent;
 mod listing;
 mod make;
 mod random;
+mod requests;
 mod seen;
 mod shares;
 mod sizes;
@@ -35,7 +38,8 @@ const USAGE: &str = "usage:
                                            conversions, edges, jobs, listed, writings, figured
   independent make MODE SEED NUMBER        one input of a seed, to standard output
   independent compare MODE PROGRAM [--emulator CMD] [--seed S] [--count N] [--threads T] [--keep FILE] [--go-on]
-where MODE is expand, edges, convert, listing, circle, listed, writings or figured";
+where MODE is expand, edges, rows, goings, convert, listing, circle, listed, writings or figured;
+with --requests 7, 10, 7,10 or none anywhere, runs have these of requests L7 and L10";
 
 /// Shared parts nest some thousands deep, and reading, building and dropping them goes down with them.
 const STACK: usize = 256 << 20;
@@ -55,7 +59,12 @@ fn given() -> Vec<u8> {
 }
 
 fn command() {
-    let words: Vec<String> = std::env::args().skip(1).collect();
+    let mut words: Vec<String> = std::env::args().skip(1).collect();
+    if let Some(place) = words.iter().position(|word| word == "--requests") {
+        let named = words.get(place + 1).and_then(|word| requests::Requests::named(word));
+        requests::set(named.unwrap_or_else(|| usage()));
+        words.drain(place..place + 2);
+    }
     match words.first().map(String::as_str) {
         Some("make") if words.len() == 4 => {
             let made = (mode(&words[1]).make)(number(&words[2]), number(&words[3]));

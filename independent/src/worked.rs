@@ -38,7 +38,7 @@ fn run_book(book: &[u8], question: &[u8], fuel: u32, nodes: usize, places: usize
 
 fn of(number: u8, place: usize, counts: [usize; 5]) -> Outcome {
     let [turns, answers, nodes, choices, waiting] = counts;
-    Outcome { number, place, turns: turns as u32, answers, nodes, choices, waiting }
+    Outcome { number, place, turns: turns as u32, answers, nodes, choices, waiting, question: 0 }
 }
 
 fn input(book: &[u8], question: &[u8], fuel: u32) -> Vec<u8> {
