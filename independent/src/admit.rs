@@ -410,12 +410,7 @@ pub const ROW_FAULTS: &[&str] =
 
 /// Request L3: "A run takes a row of up to 32 lengths and the questions' bytes end to end, loaded in order (bytes too few or left
 /// over: 11 at 0)". Questions are met in order; of one whose bytes are not all there nothing is read.
-pub fn row(
-    book_bytes: &[u8],
-    lengths: &[u16],
-    bytes: &[u8],
-    seen: &mut Seen,
-) -> Result<(Book, Vec<Question>), Fault> {
+pub fn row(book_bytes: &[u8], lengths: &[u16], bytes: &[u8], seen: &mut Seen) -> Result<(Book, Vec<Question>), Fault> {
     let admitted = book(book_bytes).and_then(|b| questions(&b, lengths, bytes).map(|q| (b, q)));
     if let Err(fault) = &admitted {
         seen.note(fault.name);

@@ -11,12 +11,16 @@ mod evaluator;
 mod expand;
 mod figures;
 mod going;
+mod goings;
 mod jobs;
+#[cfg(test)]
+mod later;
 mod lent;
 mod listing;
 mod make;
 mod random;
 mod requests;
+mod rows;
 mod seen;
 mod shares;
 mod sizes;
@@ -35,7 +39,7 @@ const DEFAULT_COUNT: u64 = 20_000;
 const USAGE: &str = "usage:
   independent NAME                         standard input to standard output, as the program NAME:
                                            expand, convert, listing, circle; for whole tables: admissions,
-                                           conversions, edges, jobs, listed, writings, figured
+                                           conversions, edges, goings, jobs, listed, rows, writings, figured
   independent make MODE SEED NUMBER        one input of a seed, to standard output
   independent compare MODE PROGRAM [--emulator CMD] [--seed S] [--count N] [--threads T] [--keep FILE] [--go-on]
 where MODE is expand, edges, rows, goings, convert, listing, circle, listed, writings or figured;
