@@ -87,6 +87,12 @@ fn by_chance(seed: u64, number: u64, count: usize) -> (Random, Book, Vec<u8>, Ve
     }
 }
 
+/// So many inputs, or more by the variable INDEPENDENT_SCALE.
+fn inputs(count: u64) -> std::ops::Range<u64> {
+    let scale = std::env::var("INDEPENDENT_SCALE").map_or(1, |scale| scale.parse().expect("a number"));
+    0..count * scale
+}
+
 /// Work with a stack for shared parts that nest deep.
 fn deep(work: impl FnOnce() + Send + 'static) {
     std::thread::Builder::new().stack_size(crate::STACK).spawn(work).expect("a thread").join().expect("no panic");
@@ -136,7 +142,7 @@ mod shorten {
     fn only_forwards_arrows_differ_and_lead_to_the_same_nodes() {
         deep(|| {
             let (mut tried, mut shortened, mut refused) = (0, 0, 0);
-            for number in 0..900 {
+            for number in inputs(300) {
                 let (mut random, _, book, questions) = by_chance(7, number, 2);
                 let row = Questions::of(&questions);
                 let asked = if number % 3 == 0 { row.asked() } else { Asked::One(&questions[0]) };
@@ -170,7 +176,7 @@ mod shorten {
                     refused += (first.nodes > 0 && first.number > 20) as usize;
                 }
             }
-            assert!(shortened > 500 && refused > 200, "{tried} {shortened} {refused}");
+            assert!(shortened > 150 && refused > 50, "{tried} {shortened} {refused}");
             println!("{tried} runs, {shortened} shortened forwards left, {refused} runs refused with 21 to 25");
         });
     }
@@ -296,7 +302,7 @@ mod again {
     fn turns_and_answers_are_those_of_room_enough() {
         deep(|| {
             let (mut dropped, mut short_of, mut tried) = (0, 0, 0);
-            for number in 0..500 {
+            for number in inputs(120) {
                 let (mut random, _, book_bytes, questions) = by_chance(10, number, 2);
                 let book = admit::book(&book_bytes).expect("a sound book");
                 let row = Questions::of(&questions);
@@ -341,7 +347,7 @@ mod again {
                     }
                 }
             }
-            assert!(dropped > 1_000 && short_of > 500, "{tried} {dropped} {short_of}");
+            assert!(dropped > 500 && short_of > 100, "{tried} {dropped} {short_of}");
             println!("{tried} runs, {dropped} drops, {short_of} runs ended in 21");
         });
     }
@@ -350,7 +356,7 @@ mod again {
     #[test]
     fn all_four_switches_agree_where_none_lacks_room() {
         deep(|| {
-            for number in 0..300 {
+            for number in inputs(80) {
                 let (_, _, book, questions) = by_chance(11, number, 1);
                 let asked = Asked::One(&questions[0]);
                 let mut plain = marked(NODES, 64, 16_384);
@@ -571,7 +577,7 @@ mod questions {
     fn each_question_answers_as_alone() {
         deep(|| {
             let (mut finished, mut parts, mut answers) = (0, 0, 0);
-            for number in 0..700 {
+            for number in inputs(250) {
                 let mut random = Random::new(33, number);
                 let count = if random.percent(80) { random.from(1, 5) } else { random.from(6, 32) };
                 let (mut random, _, book, questions) = by_chance(3, number, count);
@@ -616,7 +622,7 @@ mod questions {
                     }
                 }
             }
-            assert!(finished > 200 && parts > 200 && answers > 1_000, "{finished} {parts} {answers}");
+            assert!(finished > 100 && parts > 100 && answers > 300, "{finished} {parts} {answers}");
             println!("{finished} questions of finished rows, {parts} of others, {answers} answers");
         });
     }
@@ -625,7 +631,7 @@ mod questions {
     #[test]
     fn a_row_of_one() {
         deep(|| {
-            for number in 0..200 {
+            for number in inputs(100) {
                 let (mut random, _, book, questions) = by_chance(1, number, 1);
                 let requests = *random.pick(&ALL);
                 let fuel = random.below(500) as u32;
@@ -838,7 +844,7 @@ mod going_on {
     fn a_then_b_is_a_plus_b() {
         deep(|| {
             let (mut tried, mut drops, mut pieces) = (0, 0, 0);
-            for number in 0..700 {
+            for number in inputs(250) {
                 let (mut random, _, book, questions) = by_chance(12, number, 3);
                 let row = Questions::of(&questions);
                 let is_row = number % 2 == 0;
@@ -884,7 +890,7 @@ mod going_on {
                     tried += 1;
                 }
             }
-            assert!(tried > 800 && drops > 100, "{tried} {drops} {pieces}");
+            assert!(tried > 300 && drops > 50, "{tried} {drops} {pieces}");
             println!("{tried} sums, {pieces} goings on, {drops} drops in them");
         });
     }
@@ -894,7 +900,7 @@ mod going_on {
     fn more_room_after_a_refusal() {
         deep(|| {
             let mut refused = [0; 6];
-            for number in 0..900 {
+            for number in inputs(300) {
                 let (mut random, _, book, questions) = by_chance(21, number, 1);
                 let asked = Asked::One(&questions[0]);
                 let requests = if number % 2 == 0 { PLAIN } else { SHORTEN };
@@ -928,7 +934,7 @@ mod going_on {
                 assert_eq!((&wide.nodes, &wide.list), (&whole.nodes, &whole.list));
                 assert_eq!(joined, records(&whole.answers, sum.answers));
             }
-            assert!(refused[1] > 50 && refused[3] > 50 && refused[5] > 50, "{refused:?}");
+            assert!(refused[1] > 20 && refused[3] > 20 && refused[5] > 20, "{refused:?}");
             println!("refused with 21, 23 and 25, then gone on with: {} {} {}", refused[1], refused[3], refused[5]);
         });
     }
