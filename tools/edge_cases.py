@@ -4,9 +4,9 @@
 A row of stdin: a label (two-byte length, text), how many node numbers, list places and answer bytes are lent (two bytes each), the fuel
 (four bytes), a book and a question (two-byte length, bytes). Its lines of stdout: first the label, the seven result numbers, and a checksum of
 all the node numbers, all the list places and all the answer bytes that the program has, lent or not: 32,010, 100 and 16,400. Before a run each
-number is 48,879, each place has root 7, choice 3 decided left and choice 200 right, each byte is 170. A checksum begins at 0 and becomes (c * 31 + v) % 2^32 for each
-number v; an entry's are its root and its 256 decisions (0 open, 1 left, 2 right). Then a line for each answer as `expand` prints it: `A`, the
-symbols, `|`, the decision numbers.
+number is 48,879, each place has root 7, choice 3 decided left and choice 200 right, each byte is 170. A checksum begins at 0 and becomes
+(c * 31 + v) % 2^32 for each number v; an entry's are its root and its 256 decisions (0 open, 1 left, 2 right). Then a line for each answer as
+`expand` prints it: `A`, the symbols, `|`, the decision numbers.
 
 stdout is made by the independent evaluator (independent/, subcommand `edges`), never by the program. Beside each row stands what was worked
 out by hand from document 01: the seven numbers, and what the used part of each memory holds, the answers among it. The script works these out
@@ -541,6 +541,15 @@ case('256 arrows down in a branch: the arrow\'s forwards have been followed', (2
      Left(chained(short([(1, 2), (2, 2)], n_apply(Z), n_apply(P, 4, 5)) + short([(0, 2)]) + [None] * 5 + [n_apply(LOOK, 0)], 5, [51] * 4 + [50]),
           [(3, {})], answers()),
      VALUES, asked(share(times(SAME, 2, ZERO), apply(P, apply(SAME, var(0)), times(F51, 4, apply(F50, apply(LOOK, var(0)))))), 2))
+
+# let b = many(many(many(many Z))) in P(same b, S b), where many(x) is 50 times same of x: 0 to 3 are many, 4 Z, 5 P, 6 same, 7 S. One turn makes 6 a forward,
+# four times 51 turns those of b, which only 6 leads into; so b's first still leads to its second, when the last turn follows all 200 from S.
+chain = [0, *range(8, 57), 1, *range(57, 106), 2, *range(106, 155), 3, *range(155, 204), 4]
+links = {a: n_forward(4 if shortened else b) for a, b in zip(chain, chain[1:])}
+links.update({4: n_apply(Z), 5: n_apply(P, 6, 7), 6: n_forward(4 if shortened else 0), 7: n_apply(S, 0)})
+case('200 forwards followed at once', (0, 0, 206, 1, 204, 0, 0), Left([links[n] for n in range(204)], [], answers(record([P, Z, S, Z], {}))),
+     later(rule(var(0)), rule(times(AS_IS, 50, var(0))), arguments=1),
+     asked(share(times(4, 4, ZERO), apply(P, apply(AS_IS, var(0)), apply(S, var(0)))), 2))
 
 # ---- change request L10: spin(x) = spin(6 times S of Z) takes seven nodes a turn, and eight can be reached
 SPIN = 4

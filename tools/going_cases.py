@@ -39,6 +39,7 @@ from cases import *
 requests, folder = options(sys.argv[1:], '7,10')
 shortened, again = '7' in requests, '10' in requests
 groups = []
+UNKNOWN_SYMBOL_FITS = False  # the reading of independent/src/going.rs: an unknown symbol has no sort; only the place of 30 depends on it
 FRESH = object()  # said of what a call leaves: nothing is known by hand
 
 
@@ -308,8 +309,8 @@ case.refused(NODE + 2, number(2, 3, 0), number(0, 0, 3), number(0, 2, 3)).refuse
     NODE + 2, number(2, 3, 0), number(0, 0, 1), number(0, 1, 0), number(0, 2, 4), number(0, 3, 1), count(CHOICES, 1))
 # a forward past the nodes, a forward to itself, an unknown kind: not blamed on the user
 case.refused(NODE + 4, number(4, 0, 3), number(4, 2, 5)).refused(NODE + 4, number(4, 0, 3), number(4, 2, 4)).refused(NODE + 4, number(4, 0, 9))
-# an unknown symbol has no sort, and so does not fit: blamed on the user, which stands before it
-case.refused(NODE + 2, number(4, 1, 3)).refused(NODE, number(0, 1, 3))
+# an unknown symbol has no sort, and so does not fit: blamed on the user, which stands before it, unless it is read as fitting every sort
+case.refused(NODE + (4 if UNKNOWN_SYMBOL_FITS else 2), number(4, 1, 3)).refused(NODE, number(0, 1, 3))
 case.go((0, 0, 1, 1, 5, 0, 0, 0), Left(BASE, [], answers(record([2, 0, 1], {}))))
 fits = [n_choice(0, 4, 1), N_FAIL, n_apply(2, 3, 0), n_apply(0), n_apply(1)]
 case = sorted_case('a choice of n and a fail fits sort 1')
