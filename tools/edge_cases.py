@@ -4,192 +4,30 @@
 A row of stdin: a label (two-byte length, text), how many node numbers, list places and answer bytes are lent (two bytes each), the fuel
 (four bytes), a book and a question (two-byte length, bytes). Its lines of stdout: first the label, the seven result numbers, and a checksum of
 all the node numbers, all the list places and all the answer bytes that the program has, lent or not: 32,010, 100 and 16,400. Before a run each
-number is 48,879, each place has root 7, choice 3 decided left and choice 200 right, each byte is 170. A checksum begins at 0 and becomes (c * 31 + v) % 2^32 for each
-number v; an entry's are its root and its 256 decisions (0 open, 1 left, 2 right). Then a line for each answer as `expand` prints it: `A`, the
-symbols, `|`, the decision numbers.
+number is 48,879, each place has root 7, choice 3 decided left and choice 200 right, each byte is 170. A checksum begins at 0 and becomes
+(c * 31 + v) % 2^32 for each number v; an entry's are its root and its 256 decisions (0 open, 1 left, 2 right). Then a line for each answer as
+`expand` prints it: `A`, the symbols, `|`, the decision numbers.
 
 stdout is made by the independent evaluator (independent/, subcommand `edges`), never by the program. Beside each row stands what was worked
 out by hand from document 01: the seven numbers, and what the used part of each memory holds, the answers among it. The script works these out
 to checksums and lines and asserts that the evaluator's lines are the same.
 
-usage: tools/edge_cases.py            (builds the evaluator with cargo, writes both files)
+usage: tools/edge_cases.py [--requests R] [FOLDER]            (builds the evaluator with cargo, writes both files into crates/edges if no folder is named)
+R says which of requests L7 and L10 the runs have, `none`, `7`, `10` or `7,10`; without it those that have landed (cases.py). The table is the same.
 """
 import os
-import subprocess
 import sys
 
-here = os.path.dirname(os.path.abspath(__file__))
-repository = os.path.join(here, '..')
-top = os.path.join(repository, 'crates', 'edges')
+from cases import *
 
-NUMBERS, PLACES, BYTES = 32010, 100, 16400
+requests, folder = options(sys.argv[1:], LANDED)
+shortened, again = '7' in requests, '10' in requests
 rows = []
-
-
-class Left:
-    """What a run leaves: nodes (ten numbers each), the waiting entries (root, {choice: side}), the answers. None for what is not known."""
-
-    def __init__(self, nodes, waiting, answers):
-        self.nodes, self.waiting, self.answers = nodes, waiting, answers
 
 
 def case(label, result, left, book, question, fuel=1000, numbers=32000, places=64, room=16384):
     """A row; `left` is None for memory that is untouched."""
     rows.append((label, result, left, bytes(book), bytes(question), fuel, numbers, places, room))
-
-
-# ---- bytes of books and questions
-
-def two(n):
-    return bytes([n // 256, n % 256])
-
-
-def part(body):
-    return two(len(body)) + body
-
-
-def hx(text):
-    return bytes.fromhex(text.replace(' ', ''))
-
-
-def symbol(kind, *arguments):
-    """A symbol of sort 0, all arguments of sort 0."""
-    return bytes([2 + len(arguments), kind, 0, *arguments])
-
-
-def constructor(arguments=0):
-    return symbol(0, *[0] * arguments)
-
-
-def operation(arguments=0):
-    return symbol(1, *[0] * arguments)
-
-
-def book(symbols, trees, version=1):
-    return bytes([version]) + part(b''.join(symbols)) + part(b''.join(part(t) for t in trees))
-
-
-def asked(expression, version=1):
-    return bytes([version]) + part(b'\x00' + expression)
-
-
-def apply(f, *arguments):
-    return b'\x01' + two(f) + b''.join(arguments)
-
-
-def choice(a, b):
-    return b'\x02' + a + b
-
-
-FAIL = b'\x03'
-
-
-def share(first, body):
-    """Request L8: a shared part of sort 0."""
-    return b'\x04\x00' + first + body
-
-
-def var(x):
-    return bytes([0, x])
-
-
-def rule(expression):
-    return b'\x01' + expression
-
-
-def branch(x, *trees):
-    return bytes([2, x]) + b''.join(trees)
-
-
-def times(f, count, inner):
-    for _ in range(count):
-        inner = apply(f, inner)
-    return inner
-
-
-# ---- nodes, entries and records as document 01 writes them
-
-def node(kind, label, *arrows):
-    return [kind, label] + list(arrows) + [0] * (8 - len(arrows))
-
-
-def n_apply(f, *arrows):
-    return node(0, f, *arrows)
-
-
-def n_choice(c, left, right):
-    return node(1, c, left, right)
-
-
-N_FAIL = node(2, 0)
-
-
-def n_forward(to):
-    return node(3, 0, to)
-
-
-LEFT, RIGHT = 1, 2
-
-
-class Answers:
-    """The answer bytes, and the line of each answer."""
-
-    def __init__(self, written, lines):
-        self.written, self.lines = written, lines
-
-
-def record(symbols, decisions):
-    numbers = [2 * c + (decisions[c] == RIGHT) for c in sorted(decisions)]
-    body = two(len(symbols)) + b''.join(two(n) for n in symbols + numbers)
-    return two(len(body)) + body, ' '.join(['A'] + [str(n) for n in symbols] + ['|'] + [str(n) for n in numbers])
-
-
-def answers(*records):
-    return Answers(b'\x01' + b''.join(written for written, _ in records), [line for _, line in records])
-
-
-# ---- the small book and D (dup of False or True), with what is left after each of its ten turns
-
-SMALL = hx('01 0012 020000 020000 0401000000 020100 03010000 0021'
-           '000F 0200 010001 0201 01010001 01010000 0004 01010003 0008 0101000200000000')
-D = hx('01 000B 00 010004 02 010000 010001')
-FALSE, TRUE, XOR, LOOP, DUP = range(5)
-assert len(SMALL) == 56
-
-
-def d_after(turns):
-    """Loaded: 0 dup(1), 1 choice 0 (2, 3), 2 False, 3 True; then one line for each turn."""
-    nodes = [n_apply(DUP, 1), n_choice(0, 2, 3), n_apply(FALSE), n_apply(TRUE)]
-    waiting = [(0, {})]
-    written = answers()
-    l, r = {0: LEFT}, {0: RIGHT}
-    if turns >= 1:  # dup's rule: xor of its argument's arrow twice, in its own node
-        nodes[0] = n_apply(XOR, 1, 1)
-    if turns >= 2:  # xor looks at its first argument, a choice: pulled up, nodes 4 and 5
-        nodes[0] = n_choice(0, 4, 5)
-        nodes += [n_apply(XOR, 2, 1), n_apply(XOR, 3, 1)]
-    if turns >= 3:  # the split
-        waiting = [(4, l), (5, r)]
-    if turns >= 4:  # xor of False and y is y: a forward
-        nodes[4] = n_forward(1)
-        waiting = [(5, r), (4, l)]
-    if turns >= 5:  # xor of True looks at its second argument, a choice: pulled up, nodes 6 and 7
-        nodes[5] = n_choice(0, 6, 7)
-        nodes += [n_apply(XOR, 3, 2), n_apply(XOR, 3, 3)]
-        waiting = [(4, l), (5, r)]
-    if turns >= 6:  # behind the forward the choice, decided left
-        waiting = [(5, r), (2, l)]
-    if turns >= 7:  # decided right
-        waiting = [(2, l), (7, r)]
-    if turns >= 8:  # False is written
-        waiting = [(7, r)]
-        written = answers(record([FALSE], l))
-    if turns >= 9:  # xor of True and True
-        nodes[7] = n_apply(FALSE)
-    if turns >= 10:  # False is written once more
-        waiting = []
-        written = answers(record([FALSE], l), record([FALSE], r))
-    return Left(nodes, waiting, written)
 
 
 d_done = (0, 0, 10, 2, 8, 1, 0)
@@ -203,13 +41,24 @@ case('D, fuel 4,294,967,295: the largest', d_done, d_after(10), SMALL, D, fuel=4
 
 # ---- node room: D needs eight nodes, the fifth turn takes the last two; four are loaded
 case('D, 8 nodes: used to the last', d_done, d_after(10), SMALL, D, fuel=10, numbers=80)
-case('D, 7 nodes: the second pull-up needs one more', (21, 0, 4, 0, 6, 1, 2), d_after(4), SMALL, D, fuel=10, numbers=70)
+# With L10 the second pull-up drops node 0, which no entry reaches any more, and takes the last two of seven; with six nodes it lacks one still.
+if again:
+    few = (0, 0, 10, 2, 7, 1, 0)
+    moved = [one[:2] + [a - 1 for a in one[2:2 + arrows_of(one, SMALL_ARITIES)]] + one[2 + arrows_of(one, SMALL_ARITIES):] for one in d_after(10).nodes[1:]]
+    d_few = Left(moved, [], d_after(10).answers)
+    fewer = (21, 0, 4, 0, 5, 1, 2)
+    d_fewer = Left(*dropped(d_after(4).nodes, d_after(4).waiting, SMALL_ARITIES), answers(), vacated=1)
+else:
+    few = fewer = (21, 0, 4, 0, 6, 1, 2)
+    d_few = d_fewer = d_after(4)
+case('D, 7 nodes: the second pull-up needs one more', few, d_few, SMALL, D, fuel=10, numbers=70)
+case('D, 6 nodes', fewer, d_fewer, SMALL, D, fuel=10, numbers=60)
 case('D, 4 nodes: loaded, the first pull-up needs two more', (21, 0, 1, 0, 4, 1, 1), d_after(1), SMALL, D, fuel=10, numbers=40)
 case('D, 3 nodes: not loaded, nothing touched', (21, 0, 0, 0, 0, 0, 0), None, SMALL, D, fuel=10, numbers=30)
 case('D, node room of 0 numbers', (21, 0, 0, 0, 0, 0, 0), None, SMALL, D, fuel=10, numbers=0)
 # only whole nodes are used: the part node at the end of the room stays as it was
 case('D, 85 numbers: 8 whole nodes and half of one', d_done, d_after(10), SMALL, D, fuel=10, numbers=85)
-case('D, 79 numbers: 7 whole nodes and nine numbers', (21, 0, 4, 0, 6, 1, 2), d_after(4), SMALL, D, fuel=10, numbers=79)
+case('D, 79 numbers: 7 whole nodes and nine numbers', few, d_few, SMALL, D, fuel=10, numbers=79)
 case('D, 39 numbers: 3 whole nodes, not loaded', (21, 0, 0, 0, 0, 0, 0), None, SMALL, D, fuel=10, numbers=39)
 
 # ---- answer room: a byte for the version and two records of eight bytes
@@ -294,7 +143,10 @@ one_more = asked(times(EIGHT, 32, apply(ONE, apply(Z0))))
 past = Left(eights([n_apply(ONE, 33), n_apply(Z0)]), [(32, all_right)], answers())
 case('the 257th choice', (22, 0, 544, 0, 514, 256, 1), past, CHOICES, one_more)
 case('the 257th choice, one node left', (22, 0, 544, 0, 514, 256, 1), past, CHOICES, one_more, numbers=5150)
-case('the 257th choice, no node left: 21 comes before 22', (21, 0, 544, 0, 514, 256, 1), past, CHOICES, one_more, numbers=5140)
+# With L10 all but one(Z) is dropped, there is room, and the choice is refused.
+kept = Left([n_apply(ONE, 1), n_apply(Z0)], [(0, all_right)], answers(), vacated=512)
+case('the 257th choice, no node left: 21 comes before 22', (22, 0, 544, 0, 2, 256, 1) if again else (21, 0, 544, 0, 514, 256, 1),
+     kept if again else past, CHOICES, one_more, numbers=5140)
 
 # ---- 64 entries: symbols 1 to 6 are t1 = Z or Z, t2 = t1 or t1, .. t6 = t5 or t5;
 # symbols 7 to 12 are a1 = (Z or Z) or Z, a2 = a1 or t1, .. a6 = a5 or t5
@@ -482,14 +334,26 @@ assert len(last) == 3200
 all_nodes = Left(last, [], answers(record([S] * 61 + [Z], {})))
 fits = asked(apply(GROW, times(S, 49, apply(Z)), apply(Z)))
 case('3,200 nodes: used to the last', (0, 0, 51, 1, 3200, 0, 0), all_nodes, GROWING, fits)
-# One node more is loaded, so the fiftieth turn needs the 3,201st.
-over = Left(grown([n_apply(S, 52), n_apply(Z)]), [(0, {})], answers())
+# One node more is loaded, so the fiftieth turn needs the 3,201st. With L10 it drops the 49 S that were counted down, and finishes.
+def out_of_nodes(nodes):
+    """What is left, and the result, where the fiftieth turn lacks nodes."""
+    if not again:
+        return Left(nodes, [(0, {})], answers()), (21, 0, 49, 0, len(nodes), 0, 1)
+    nodes, _ = dropped(nodes, [(0, {})], [0, 1, 2])
+    fresh = len(nodes)
+    nodes[0] = n_apply(S, fresh)
+    nodes += [n_apply(S, fresh + j + 1) for j in range(60)] + [n_apply(Z)]
+    return Left(nodes, [], answers(record([S] * 61 + [Z], {}))), (0, 0, 51, 1, fresh + 61, 0, 0)
+
+
+over, over_result = out_of_nodes(grown([n_apply(S, 52), n_apply(Z)]))
+assert over_result[4] == (3152 if again else 3140)
 too_many = asked(apply(GROW, times(S, 49, apply(Z)), apply(S, apply(Z))))
-case('the 3,201st node', (21, 0, 49, 0, 3140, 0, 1), over, GROWING, too_many)
+case('the 3,201st node', over_result, over, GROWING, too_many)
 case('3,200 nodes, 32,010 numbers lent: the last ten stay as they were', (0, 0, 51, 1, 3200, 0, 0), all_nodes, GROWING, fits, numbers=32010)
-case('the 3,201st node, 32,010 numbers lent: only 3,200 nodes are used', (21, 0, 49, 0, 3140, 0, 1), over, GROWING, too_many, numbers=32010)
-case('3,200 nodes, 31,999 numbers lent: 3,199 whole nodes', (21, 0, 49, 0, 3139, 0, 1),
-     Left(grown([n_apply(Z)]), [(0, {})], answers()), GROWING, fits, numbers=31999)
+case('the 3,201st node, 32,010 numbers lent: only 3,200 nodes are used', over_result, over, GROWING, too_many, numbers=32010)
+less, less_result = out_of_nodes(grown([n_apply(Z)]))
+case('3,200 nodes, 31,999 numbers lent: 3,199 whole nodes', less_result, less, GROWING, fits, numbers=31999)
 
 # ---- change request L2: all children of a constructor are looked at first, and this adds no arrivals
 PAIR, NIL, ROUND = range(3)
@@ -611,6 +475,8 @@ def taken(calls, rewritten):
         for j in range(8):
             nodes += [n_choice(8 * i + j, at + 2 * j + 1, at + 2 * j + 2), N_FAIL]
         nodes.append(N_FAIL)
+    if shortened:  # the turn behind the last rewrite has followed the root's forwards: of these only the root's own is on a chain that is longer than one
+        nodes[0] = n_forward(rewritten)
     return nodes
 
 
@@ -619,8 +485,13 @@ case('256 choices in firsts that are not used', (0, 0, 33, 1, 577, 256, 0), Left
      taker, asked(times(NEW, 32, ZERO)), numbers=5770)
 case('the 257th choice in a first that is not used', (22, 0, 32, 0, 578, 256, 1), Left(taken(33, 32), [(0, {})], answers()),
      taker, asked(times(NEW, 33, ZERO)), numbers=5950)
-case('the 257th choice in a first, one node short: 21 comes before 22', (21, 0, 32, 0, 578, 256, 1), Left(taken(33, 32), [(0, {})], answers()),
-     taker, asked(times(NEW, 33, ZERO)), numbers=5940)
+# With L10 the choices of the firsts are dropped, and the choice is refused; with L7 the forwards behind the root's own are dropped too.
+short_of, short_result = Left(taken(33, 32), [(0, {})], answers()), (21, 0, 32, 0, 578, 256, 1)
+if again:
+    kept, roots = dropped(short_of.nodes, short_of.waiting, [0, 1, 2, 1])
+    assert len(kept) == (3 if shortened else 34)
+    short_of, short_result = Left(kept, roots, answers(), vacated=578 - len(kept)), (22, 0, 32, 0, len(kept), 256, 1)
+case('the 257th choice in a first, one node short: 21 comes before 22', short_result, short_of, taker, asked(times(NEW, 33, ZERO)), numbers=5940)
 
 
 # Firsts in firsts: each level is two bytes before and a lone variable behind. A question has 4 bytes before its expression; the book below 23 before
@@ -636,6 +507,75 @@ deep_rule = later(rule(nested_firsts(8185)))
 assert len(deep_rule) == 32766
 case('8,185 firsts in firsts in a rule: a forward', (0, 0, 2, 1, 2, 0, 0), Left([n_forward(1), n_apply(Z)], [], answers(record([Z], {}))),
      deep_rule, asked(apply(NEW)), numbers=20)
+
+# ---- change request L7: a chain of forwards is shortened where it is followed
+
+def short(arrows, *nodes):
+    """Nodes of which the first are forwards: to the first of each pair without L7, to the second with it."""
+    return [n_forward(b if shortened else a) for a, b in arrows] + list(nodes)
+
+
+# same(x) = x, and look(x) branches on x and gives Z.
+AS_IS, LOOKS = 3, 4
+FORWARDS = later(rule(var(0)), branch(0, rule(ZERO), rule(ZERO), rule(ZERO)), arguments=1)
+# Each turn makes the next same a forward; the root's chain is followed over the forward that the turn before made. The others lead to the next.
+case('three forwards in a chain', (0, 0, 4, 1, 4, 0, 0), Left(short([(1, 3), (2, 2), (3, 3)], n_apply(Z)), [], answers(record([Z], {}))),
+     FORWARDS, asked(times(AS_IS, 3, ZERO)))
+case('three forwards in a chain, fuel 3: a turn refused with 20 follows nothing', (20, 0, 3, 0, 4, 0, 1),
+     Left(short([(1, 2), (2, 2), (3, 3)], n_apply(Z)), [(0, {})], answers()), FORWARDS, asked(times(AS_IS, 3, ZERO)), fuel=3)
+case('two forwards to a choice, list of 1 place: 23 keeps the root\'s chain', (23, 0, 2, 0, 5, 1, 1),
+     Left(short([(1, 2), (2, 2)], n_choice(0, 3, 4), n_apply(Z), n_apply(Z)), [(0, {})], answers()),
+     FORWARDS, asked(times(AS_IS, 2, choice(ZERO, ZERO))), places=1)
+case('two forwards to a value, answer room of 1 byte: 25 keeps the chain', (25, 0, 2, 0, 3, 0, 1),
+     Left(short([(1, 2), (2, 2)], n_apply(Z)), [(0, {})], answers()), FORWARDS, asked(times(AS_IS, 2, ZERO)), room=1)
+# look's variable is node 1: a forward after the first turn, over 2 to 3 after the second; the third follows both.
+case('two forwards at a branch variable', (0, 0, 4, 1, 4, 0, 0),
+     Left([n_apply(Z)] + short([(2, 3), (3, 3)], n_apply(Z)), [], answers(record([Z], {}))), FORWARDS, asked(apply(LOOKS, times(AS_IS, 2, ZERO))))
+# let b = same(same Z) in P(same b, P(fail, b)): 0 and 1 are b's, 2 Z, 3 P, 4 same, 5 P, 6 fail. The first look at 3 follows 4 in each turn, and
+# at 5, in the fourth turn, both children before the fail ends the entry.
+case('the first look follows a child behind a fail', (0, 0, 4, 0, 7, 0, 0),
+     Left(short([(1, 2), (2, 2)], n_apply(Z), n_apply(P, 4, 5)) + short([(0, 2)]) + [n_apply(P, 6, 0), N_FAIL], [], answers()),
+     FORWARDS, asked(share(times(AS_IS, 2, ZERO), apply(P, apply(AS_IS, var(0)), apply(P, FAIL, var(0)))), 2))
+# The same b beside 254 S and LOOK of b: 4 is followed in three turns, five turns make the S, and LOOK's variable is met 256 arrows down.
+case('256 arrows down in a branch: the arrow\'s forwards have been followed', (24, 0, 8, 0, 260, 0, 1),
+     Left(chained(short([(1, 2), (2, 2)], n_apply(Z), n_apply(P, 4, 5)) + short([(0, 2)]) + [None] * 5 + [n_apply(LOOK, 0)], 5, [51] * 4 + [50]),
+          [(3, {})], answers()),
+     VALUES, asked(share(times(SAME, 2, ZERO), apply(P, apply(SAME, var(0)), times(F51, 4, apply(F50, apply(LOOK, var(0)))))), 2))
+
+# let b = many(many(many(many Z))) in P(same b, S b), where many(x) is 50 times same of x: 0 to 3 are many, 4 Z, 5 P, 6 same, 7 S. One turn makes 6 a forward,
+# four times 51 turns those of b, which only 6 leads into; so b's first still leads to its second, when the last turn follows all 200 from S.
+chain = [0, *range(8, 57), 1, *range(57, 106), 2, *range(106, 155), 3, *range(155, 204), 4]
+links = {a: n_forward(4 if shortened else b) for a, b in zip(chain, chain[1:])}
+links.update({4: n_apply(Z), 5: n_apply(P, 6, 7), 6: n_forward(4 if shortened else 0), 7: n_apply(S, 0)})
+case('200 forwards followed at once', (0, 0, 206, 1, 204, 0, 0), Left([links[n] for n in range(204)], [], answers(record([P, Z, S, Z], {}))),
+     later(rule(var(0)), rule(times(AS_IS, 50, var(0))), arguments=1),
+     asked(share(times(4, 4, ZERO), apply(P, apply(AS_IS, var(0)), apply(S, var(0)))), 2))
+
+# ---- change request L10: spin(x) = spin(6 times S of Z) takes seven nodes a turn, and eight can be reached
+SPIN = 4
+SPINS = later(rule(var(0)), rule(apply(SPIN, times(S, 6, ZERO))), arguments=1)
+
+
+def spun(at):
+    """Six S and Z from a node on."""
+    return [n_apply(S, at + i + 1) for i in range(6)] + [n_apply(Z)]
+
+
+once = [n_apply(SPIN, 2), n_apply(Z)] + spun(2)
+case('a circle of rewriting in 15 nodes', (20, 0, 1000, 0, 15, 0, 1) if again else (21, 0, 1, 0, 9, 0, 1),
+     Left([n_apply(SPIN, 8)] + spun(1) + spun(8) if again else once, [(0, {})], answers()), SPINS, asked(apply(SPIN, ZERO)), numbers=150)
+case('a circle of rewriting in 14 nodes', (21, 0, 1, 0, 8, 0, 1) if again else (21, 0, 1, 0, 9, 0, 1),
+     Left([n_apply(SPIN, 1)] + spun(1), [(0, {})], answers(), vacated=1) if again else Left(once, [(0, {})], answers()),
+     SPINS, asked(apply(SPIN, ZERO)), numbers=140)
+# Behind four forwards: 16 nodes are enough if the root's own is the only one left.
+behind = [n_forward(4 if shortened else 1), n_forward(2), n_forward(3), n_forward(4), n_apply(SPIN, 6), n_apply(Z)] + spun(6)
+if again and shortened:
+    circle = (20, 0, 1000, 0, 16, 0, 1), Left([n_forward(1), n_apply(SPIN, 9)] + spun(2) + spun(9), [(0, {})], answers())
+elif again:
+    circle = (21, 0, 5, 0, 12, 0, 1), Left(*dropped(behind, [(0, {})], [0, 1, 2, 1, 1]), answers(), vacated=1)
+else:
+    circle = (21, 0, 5, 0, 13, 0, 1), Left(behind, [(0, {})], answers())
+case('a circle of rewriting behind four forwards in 16 nodes', *circle, SPINS, asked(times(AS_IS, 4, apply(SPIN, ZERO))), numbers=160)
 
 # ---- the archive's example, with the fuel that its file has; README.md says what its six answers mean
 dolly = open(os.path.join(here, 'corn-dollies.input'), 'rb').read()
@@ -653,57 +593,24 @@ case('the archive\'s example, list of 100 places', (20, 0, 40, 6, 25, 9, 1), exa
 
 # ---- the files
 
-def checksum(numbers):
-    c = 0
-    for v in numbers:
-        c = (c * 31 + v) % 4294967296
-    return c
-
-
-def entry(root, decisions):
-    return [root] + [decisions.get(c, 0) for c in range(256)]
-
-
-def whole(used, mark, length):
-    return used + [mark] * (length - len(used))
-
-
 def by_hand(label, result, left, places):
     """The lines of a row, from the hand-made result and memory; what is not known is a `?`."""
-    nodes, entries, written, shown = [], [], b'', []
-    sums = ['?', '?', '?']
+    shown = left.answers.lines if left else []
     if left:
-        written, shown = left.answers.written, left.answers.lines
-        assert len(shown) == result[3], (shown, result)
-    if left and left.nodes:
-        nodes = [n for one in left.nodes for n in one]
-        entries = [entry(*e) for e in left.waiting]
-        entries += [entry(0, {})] * (min(places, 64) - len(entries))
+        assert len(shown) == result[3], (label, shown, result)
+    if left and left.nodes is not None:
         counts = (len(left.nodes), len(left.waiting))
-        assert counts == (result[4], result[6]), (counts, result)
-    if not left or left.nodes:
-        entries += [entry(7, {3: 1, 200: 2})] * (PLACES - len(entries))
-        sums[:2] = checksum(whole(nodes, 48879, NUMBERS)), checksum(n for e in entries for n in e)
-    sums[2] = checksum(whole(list(written), 170, BYTES))
-    return ['{}: {} {} {} {} {} {} {}; nodes {} list {} bytes {}'.format(label, *result, *sums)] + shown
-
-
-def as_known(line, hand):
-    """The evaluator's line, with a `?` for each word that is not known by hand."""
-    words, known = line.split(' '), hand.split(' ')
-    return ' '.join('?' if k == '?' else w for w, k in zip(words, known)) if len(words) == len(known) else line
+        assert counts == (result[4], result[6]), (label, counts, result)
+    return ['{}: {} {} {} {} {} {} {}; {}'.format(label, *result, sums(left, places, False))] + shown
 
 
 table = b''
 for label, result, left, b, q, fuel, numbers, places, room in rows:
     assert numbers <= NUMBERS and places <= PLACES and room <= BYTES
-    table += part(label.encode()) + two(numbers) + two(places) + two(room) + fuel.to_bytes(4, 'big') + part(b) + part(q)
-assert len(table) <= 65536
+    table += part(label.encode()) + two(numbers) + two(places) + two(room) + four(fuel) + part(b) + part(q)
+assert len(table) <= 60000, len(table)
 
-target = os.environ.get('CARGO_TARGET_DIR') or os.path.join(os.environ.get('TMPDIR', '/tmp'), 'independent-target')
-subprocess.run(['cargo', 'build', '--quiet', '--release', '--offline'], cwd=os.path.join(repository, 'independent'), check=True,
-               env=dict(os.environ, CARGO_TARGET_DIR=target))
-printed = subprocess.run([os.path.join(target, 'release', 'independent'), 'edges'], input=table, stdout=subprocess.PIPE, check=True).stdout
+printed = evaluator(requests)('edges', given=table)
 lines = printed.decode().splitlines()
 wrong = 0
 for label, result, left, b, q, fuel, numbers, places, room in rows:
@@ -716,9 +623,5 @@ for label, result, left, b, q, fuel, numbers, places, room in rows:
 assert not lines, lines
 if wrong:
     sys.exit(f'{wrong} rows differ; nothing is written')
-os.makedirs(top, exist_ok=True)
-with open(os.path.join(top, 'stdin'), 'wb') as f:
-    f.write(table)
-with open(os.path.join(top, 'stdout'), 'wb') as f:
-    f.write(printed)
+put_files(folder or os.path.join(repository, 'crates', 'edges'), table, printed)
 print(len(rows), 'rows,', len(table), 'bytes')

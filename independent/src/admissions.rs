@@ -2,7 +2,7 @@
 //! `tools/admission_cases.py` makes the table, with what was worked out by hand.
 
 use crate::admit;
-use crate::edges::lengthy;
+use crate::lent::lengthy;
 use crate::seen::Seen;
 
 /// The lines of a whole table; None where it is cut short.

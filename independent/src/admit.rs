@@ -1,15 +1,17 @@
-//! Admission: "The book and the question, as bytes" and numbers 1 to 5 and 11 to 15, with requests L8 and L9.
+//! Admission: "The book and the question, as bytes" and numbers 1 to 5 and 11 to 15, with requests L3, L8 and L9.
 //!
 //! Bytes are read front to back; the first fault met is given.
 
 use crate::seen::Seen;
 use crate::sizes::*;
 
-/// A fault's number (1 to 5 in the book, 11 to 15 in the question), its place, and a name for counting.
+/// A fault's number (1 to 5 in the book, 11 to 15 in a question, 16 for the row), its place, the number of the question that has it
+/// (else 0), and a name for counting.
 #[derive(Clone, Copy, Debug, PartialEq, Eq)]
 pub struct Fault {
     pub number: u8,
     pub place: usize,
+    pub question: usize,
     pub name: &'static str,
 }
 
@@ -115,7 +117,7 @@ impl Reading {
         };
         let wanted = format!("{start} {number} {what}");
         let name = crate::seen::FAULTS.iter().find(|name| **name == wanted).expect(&wanted);
-        Err(Fault { number: base + number, place, name })
+        Err(Fault { number: base + number, place, question: 0, name })
     }
 }
 
@@ -400,4 +402,44 @@ pub fn both(book_bytes: &[u8], question_bytes: &[u8], seen: &mut Seen) -> Result
         seen.note(fault.name);
     }
     admitted
+}
+
+/// What can be wrong with a row of lengths and the bytes behind them.
+pub const ROW_FAULTS: &[&str] =
+    &["fault row 16 none", "fault row 16 more than 32", "fault row 11 bytes too few", "fault row 11 bytes left over"];
+
+/// Request L3: "A run takes a row of up to 32 lengths and the questions' bytes end to end, loaded in order (bytes too few or left
+/// over: 11 at 0)". Questions are met in order; of one whose bytes are not all there nothing is read.
+pub fn row(book_bytes: &[u8], lengths: &[u16], bytes: &[u8], seen: &mut Seen) -> Result<(Book, Vec<Question>), Fault> {
+    let admitted = book(book_bytes).and_then(|b| questions(&b, lengths, bytes).map(|q| (b, q)));
+    if let Err(fault) = &admitted {
+        seen.note(fault.name);
+    }
+    admitted
+}
+
+fn questions(book: &Book, lengths: &[u16], bytes: &[u8]) -> Result<Vec<Question>, Fault> {
+    let fault = |number, question, name| Err(Fault { number, place: 0, question, name: ROW_FAULTS[name] });
+    // "16 for none or more than 32 questions, between 5 and 11".
+    if lengths.is_empty() {
+        return fault(16, 0, 0);
+    }
+    if lengths.len() > QUESTIONS {
+        return fault(16, 0, 1);
+    }
+    let mut rest = bytes;
+    let mut read = Vec::new();
+    for (number, length) in lengths.iter().enumerate() {
+        if rest.len() < *length as usize {
+            return fault(11, number, 2);
+        }
+        let (own, behind) = rest.split_at(*length as usize);
+        read.push(question(book, own).map_err(|fault| Fault { question: number, ..fault })?);
+        rest = behind;
+    }
+    // "bytes left over: the last's".
+    if !rest.is_empty() {
+        return fault(11, lengths.len() - 1, 3);
+    }
+    Ok(read)
 }

@@ -1,8 +1,8 @@
 //! Feeds inputs to a proved program and to the own evaluator, and compares the whole output text.
 
 use crate::make::Made;
-use crate::seen::{Seen, FAULTS, REFUSALS, RESULTS, STEPS};
-use crate::{convert, edges, expand, figures, listing, make, writer};
+use crate::seen::{Seen, AGAIN, FAULTS, REFUSALS, RESULTS, SHORTEN, STEPS};
+use crate::{admit, convert, edges, expand, figures, going, goings, listing, make, requests, rows, writer};
 use std::io::{Read, Write};
 use std::process::{Command, Stdio};
 use std::sync::atomic::{AtomicBool, AtomicU64, Ordering};
@@ -34,6 +34,30 @@ pub const MODES: &[Mode] = &[
         make: edges::make,
         own: edges::program,
         wanted: &[("steps", STEPS), ("refusals by what asked", REFUSALS), ("refusals at loading", edges::SEEN)],
+    },
+    Mode {
+        name: "rows",
+        make: rows::make,
+        own: rows::program,
+        wanted: &[
+            ("steps", STEPS),
+            ("results", rows::ROW_RESULTS),
+            ("faults of a row", admit::ROW_FAULTS),
+            ("of these", rows::SEEN),
+            ("refusals by what asked", REFUSALS),
+        ],
+    },
+    Mode {
+        name: "goings",
+        make: goings::make,
+        own: goings::program,
+        wanted: &[
+            ("steps", STEPS),
+            ("results", goings::RESULTS),
+            ("refusals by what asked", REFUSALS),
+            ("states that were refused", going::SEEN),
+            ("goings", goings::SEEN),
+        ],
     },
     Mode { name: "convert", make: convert::make, own: convert::program, wanted: &[("results", convert::SEEN)] },
     Mode { name: "listing", make: listing::make, own: listing::program, wanted: &[("results", listing::SEEN)] },
@@ -187,7 +211,12 @@ fn report(settings: &Settings, seen: &Seen, kinds: &Seen, time: std::time::Durat
     for name in kinds.names() {
         println!("  {:>8} {name}", kinds.count(name));
     }
-    for (title, names) in settings.mode.wanted {
+    let mut wanted = settings.mode.wanted.to_vec();
+    if wanted.iter().any(|(title, _)| *title == "steps") {
+        wanted.extend(requests::current().shorten.then_some(("shortened forwards (L7)", SHORTEN)));
+        wanted.extend(requests::current().again.then_some(("nodes used again (L10)", AGAIN)));
+    }
+    for (title, names) in &wanted {
         println!("{title}:");
         for name in *names {
             let count = seen.count(name);

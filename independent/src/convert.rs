@@ -1,9 +1,9 @@
 //! The converter of request L9: any admitted book of version 1 as one of version 2, with a fail rule in each exempt spot.
 
 use crate::admit::{self, Expression, Tree};
-use crate::edges::{lengthy, two};
 use crate::encode;
 use crate::expand::take_lengthy;
+use crate::lent::{lengthy, two};
 use crate::make::{self, Made};
 use crate::random::Random;
 use crate::seen::Seen;

@@ -1,8 +1,9 @@
 //! Program `expand` of the document: input bytes to output text.
 
-use crate::evaluator::{evaluate, Memory, Outcome};
+use crate::evaluator::{evaluate, Memory};
 use crate::seen::{result_name, Seen};
 use crate::sizes::*;
+use crate::text::items;
 
 /// An input taken apart: the book, the question and the fuel.
 pub struct Input<'a> {
@@ -39,18 +40,23 @@ pub fn expand(input: &[u8], seen: &mut Seen) -> (String, Option<u8>) {
     let outcome = evaluate(book, question, fuel, &mut memory, seen);
     seen.note(result_name(outcome.number));
     let mut text = String::new();
-    answer_lines(&memory.answers, outcome.answers, &mut text);
-    let Outcome { number, place, turns, answers, nodes, choices, waiting } = outcome;
-    text.push_str(&format!("R {number} {place} {turns} {answers} {nodes} {choices} {waiting}\n"));
-    (text, Some(number))
+    answer_lines(&memory.answers, outcome.answers, false, &mut text);
+    text.push_str(&format!("R{}\n", items(&outcome.numbers()[..7])));
+    (text, Some(outcome.number))
 }
 
-/// "per answer `A`, the symbols, `|`, the decision numbers", read back from the answer bytes.
-pub fn answer_lines(bytes: &[u8], answers: usize, text: &mut String) {
+/// "per answer `A`, the symbols, `|`, the decision numbers", read back from the answer bytes. In the layout of request L3 the question's
+/// number stands in front of the line.
+pub fn answer_lines(bytes: &[u8], answers: usize, row: bool, text: &mut String) {
     let two = |at: usize| u16::from_be_bytes([bytes[at], bytes[at + 1]]) as usize;
     let mut at = 1;
     for _ in 0..answers {
-        let length = two(at);
+        let mut length = two(at);
+        if row {
+            text.push_str(&format!("{} ", two(at + 2)));
+            length -= 2;
+            at += 2;
+        }
         let symbols = two(at + 2);
         text.push('A');
         for place in 0..(length - 2) / 2 {

@@ -1,6 +1,6 @@
 //! The index figures of request L13: in how many answers each symbol stands, over answer books one behind the other.
 
-use crate::edges::{four, lengthy, two};
+use crate::lent::{four, lengthy, two};
 use crate::make::Made;
 use crate::random::Random;
 use crate::seen::Seen;

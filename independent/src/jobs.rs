@@ -1,17 +1,17 @@
 //! Program `jobs`: books, each with its questions and their fuels, every job over cleared memory. For each a line with the seven
 //! numbers. `tools/job_cases.py` makes the table and says what it holds.
 
-use crate::edges::{four, lengthy, two};
-use crate::evaluator::{evaluate, Memory, Outcome};
+use crate::evaluator::{evaluate, Memory};
+use crate::lent::{four, lengthy, two};
 use crate::seen::Seen;
 use crate::sizes::*;
+use crate::text::items;
 
 /// The line of a job.
 fn line(book: &[u8], question: &[u8], fuel: u32) -> String {
     let mut memory = Memory::sized(EXPAND_NODES, EXPAND_PLACES, EXPAND_ANSWER_BYTES);
-    let Outcome { number, place, turns, answers, nodes, choices, waiting } =
-        evaluate(book, question, fuel, &mut memory, &mut Seen::default());
-    format!("R {number} {place} {turns} {answers} {nodes} {choices} {waiting}\n")
+    let outcome = evaluate(book, question, fuel, &mut memory, &mut Seen::default());
+    format!("R{}\n", items(&outcome.numbers()[..7]))
 }
 
 /// The lines of a whole table; None where it is cut short.

@@ -1,8 +1,8 @@
 //! The tagged listing: a book from it (request L5), and its levels or its shortest circle (request L6).
 
 use crate::admit::{Book, Expression, Tree};
-use crate::edges::{four, take, two};
 use crate::encode;
+use crate::lent::{four, take, two};
 use crate::make::Made;
 use crate::random::Random;
 use crate::seen::Seen;

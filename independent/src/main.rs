@@ -10,10 +10,17 @@ mod encode;
 mod evaluator;
 mod expand;
 mod figures;
+mod going;
+mod goings;
 mod jobs;
+#[cfg(test)]
+mod later;
+mod lent;
 mod listing;
 mod make;
 mod random;
+mod requests;
+mod rows;
 mod seen;
 mod shares;
 mod sizes;
@@ -32,10 +39,11 @@ const DEFAULT_COUNT: u64 = 20_000;
 const USAGE: &str = "usage:
   independent NAME                         standard input to standard output, as the program NAME:
                                            expand, convert, listing, circle; for whole tables: admissions,
-                                           conversions, edges, jobs, listed, writings, figured
+                                           conversions, edges, goings, jobs, listed, rows, writings, figured
   independent make MODE SEED NUMBER        one input of a seed, to standard output
   independent compare MODE PROGRAM [--emulator CMD] [--seed S] [--count N] [--threads T] [--keep FILE] [--go-on]
-where MODE is expand, edges, convert, listing, circle, listed, writings or figured";
+where MODE is expand, edges, rows, goings, convert, listing, circle, listed, writings or figured;
+with --requests 7, 10, 7,10 or none anywhere, runs have these of requests L7 and L10";
 
 /// Shared parts nest some thousands deep, and reading, building and dropping them goes down with them.
 const STACK: usize = 256 << 20;
@@ -55,7 +63,12 @@ fn given() -> Vec<u8> {
 }
 
 fn command() {
-    let words: Vec<String> = std::env::args().skip(1).collect();
+    let mut words: Vec<String> = std::env::args().skip(1).collect();
+    if let Some(place) = words.iter().position(|word| word == "--requests") {
+        let named = words.get(place + 1).and_then(|word| requests::Requests::named(word));
+        requests::set(named.unwrap_or_else(|| usage()));
+        words.drain(place..place + 2);
+    }
     match words.first().map(String::as_str) {
         Some("make") if words.len() == 4 => {
             let made = (mode(&words[1]).make)(number(&words[2]), number(&words[3]));

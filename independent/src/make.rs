@@ -2,7 +2,7 @@
 
 use crate::admit::{Book, Expression, Tree};
 use crate::encode::{self, Encoded};
-use crate::evaluator::{evaluate, Memory};
+use crate::evaluator::{evaluate, Memory, Outcome};
 use crate::random::Random;
 use crate::seen::Seen;
 use crate::shares;
@@ -31,6 +31,8 @@ const SPECIALS: &[(&str, Special, usize)] = &[
     ("deep branch", special::deep_branch, 3),
     ("many arrivals", special::many_arrivals, 3),
     ("many answer bytes", special::many_answer_bytes, 3),
+    ("forward chains", special::forward_chains, 3),
+    ("nodes to use again", special::used_again, 3),
 ];
 
 type SharesMaker = fn(&mut Random) -> shares::Made;
@@ -52,10 +54,7 @@ pub fn make(seed: u64, number: u64) -> Made {
             ("well-sorted", (encode::book(&book).bytes, asked.encoded().bytes), true)
         }
         1 => {
-            let weights: Vec<usize> = SPECIALS.iter().map(|special| special.2).collect();
-            let (kind, maker, _) = SPECIALS[random.weighted(&weights)];
-            let (mut book, top) = maker(random);
-            some_edition(random, &mut book);
+            let (kind, book, top) = some_special(random);
             let asked = some_version(random, &book, 0, top);
             let sound = asked.expression.nodes() <= EXPRESSION_NODES;
             (kind, (encode::book(&book).bytes, asked.encoded().bytes), sound)
@@ -80,25 +79,34 @@ pub fn make(seed: u64, number: u64) -> Made {
 }
 
 /// A question before it is laid out as bytes.
-struct Asked {
-    version: u8,
-    sort: u8,
-    expression: Expression,
+pub struct Asked {
+    pub version: u8,
+    pub sort: u8,
+    pub expression: Expression,
 }
 
 impl Asked {
-    fn encoded(&self) -> Encoded {
+    pub fn encoded(&self) -> Encoded {
         encode::question(self.version, self.sort, &self.expression)
     }
 }
 
-fn version(random: &mut Random) -> u8 {
+pub fn version(random: &mut Random) -> u8 {
     random.from(1, 2) as u8
 }
 
 /// How many in a hundred expressions get a shared part.
 fn some_shares(random: &mut Random) -> usize {
     *random.pick(&[0, 5, 15, 30])
+}
+
+/// A book of a kind of `SPECIALS`, in either edition, with its question of sort 0.
+pub fn some_special(random: &mut Random) -> (&'static str, Book, Expression) {
+    let weights: Vec<usize> = SPECIALS.iter().map(|special| special.2).collect();
+    let (kind, maker, _) = SPECIALS[random.weighted(&weights)];
+    let (mut book, top) = maker(random);
+    some_edition(random, &mut book);
+    (kind, book, top)
 }
 
 /// Half of the books are of version 2, with or without shared parts.
@@ -110,7 +118,7 @@ fn some_edition(random: &mut Random, book: &mut Book) {
 }
 
 /// The question of this expression in either version; shared parts come into version 2.
-fn some_version(random: &mut Random, book: &Book, sort: u8, expression: Expression) -> Asked {
+pub fn some_version(random: &mut Random, book: &Book, sort: u8, expression: Expression) -> Asked {
     if version(random) == 1 {
         return Asked { version: 1, sort, expression };
     }
@@ -119,7 +127,7 @@ fn some_version(random: &mut Random, book: &Book, sort: u8, expression: Expressi
     Asked { version: 2, sort, expression }
 }
 
-fn asked(random: &mut Random, book: &Book) -> Asked {
+pub fn asked(random: &mut Random, book: &Book) -> Asked {
     let (sort, expression) = sorted::question(random, book);
     some_version(random, book, sort, expression)
 }
@@ -133,11 +141,17 @@ fn has_share(expression: &Expression) -> bool {
     }
 }
 
-/// A fuel at or about the end of the run, or any; the largest only where the run surely ends.
+/// Past the 3,200 rewrites that can each take a node; with L10 a run may go on behind it.
+pub const FAR: u32 = 3_500;
+
 fn fuel(random: &mut Random, book: &[u8], question: &[u8]) -> u32 {
-    const FAR: u32 = 3_500; // past the 3,200 rewrites that can each take a node
     let mut memory = Memory::sized(EXPAND_NODES, EXPAND_PLACES, EXPAND_ANSWER_BYTES);
     let outcome = evaluate(book, question, FAR, &mut memory, &mut Seen::default());
+    fuel_about(random, &outcome)
+}
+
+/// A fuel at or about the end of a run that got `FAR`, or any; the largest only where the run surely ends.
+pub fn fuel_about(random: &mut Random, outcome: &Outcome) -> u32 {
     let turns = outcome.turns;
     if outcome.number == 20 {
         let bound = *random.pick(&[1, 10, 100, 1_000, FAR as usize]);
@@ -155,7 +169,7 @@ fn fuel(random: &mut Random, book: &[u8], question: &[u8]) -> u32 {
     }
 }
 
-fn some_book(random: &mut Random) -> Book {
+pub fn some_book(random: &mut Random) -> Book {
     let edition = version(random);
     some_book_of(random, edition)
 }
@@ -457,9 +471,15 @@ fn about_the_65th(random: &mut Random, book: &Book, variables: usize) -> Vec<u8>
 
 fn damaged_question(random: &mut Random) -> (Vec<u8>, Vec<u8>) {
     let book = some_book(random);
-    let mut asked = asked(random, &book);
+    let bytes = damaged_question_of(random, &book);
+    (encode::book(&book).bytes, bytes)
+}
+
+/// A question that is wrong for this sound book, or nearly so.
+pub fn damaged_question_of(random: &mut Random, book: &Book) -> Vec<u8> {
+    let mut asked = asked(random, book);
     let Asked { version, sort, .. } = asked;
-    let bytes = match random.below(24) {
+    match random.below(24) {
         18..=21 => {
             asked.version = if random.percent(90) { 2 } else { 1 };
             asked.expression = any_share(random, sort, 0);
@@ -507,7 +527,7 @@ fn damaged_question(random: &mut Random) -> (Vec<u8>, Vec<u8>) {
             asked.encoded().bytes
         }
         12 => {
-            let part = [vec![sort], about_the_65th(random, &book, 0)].concat();
+            let part = [vec![sort], about_the_65th(random, book, 0)].concat();
             encode::question_of(version, &part).bytes
         }
         11 => {
@@ -526,11 +546,10 @@ fn damaged_question(random: &mut Random) -> (Vec<u8>, Vec<u8>) {
             asked.encoded().bytes
         }
         _ => {
-            damage_expression(random, &book, &mut asked.expression, 0);
+            damage_expression(random, book, &mut asked.expression, 0);
             asked.encoded().bytes
         }
-    };
-    (encode::book(&book).bytes, bytes)
+    }
 }
 
 /// Trees that bind up to 32 variables or just past, that branch twice or on a variable not there; some

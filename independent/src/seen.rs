@@ -135,3 +135,10 @@ pub const REFUSALS: &[&str] = &[
     "refused 24 256 arrows down, in a branch",
     "refused 25 record",
 ];
+
+/// With request L7.
+pub const SHORTEN: &[&str] = &["forward shortened"];
+
+/// With request L10.
+pub const AGAIN: &[&str] =
+    &["nodes dropped", "no node to drop", "rewrite after a drop", "pull-up after a drop", "refused 22 after a drop"];

@@ -1,4 +1,4 @@
-//! "Sizes" of document 01.
+//! "Sizes" of document 01, and of request L3.
 
 pub const BOOK_BYTES: usize = 32_768;
 pub const QUESTION_BYTES: usize = 4_096;
@@ -10,6 +10,9 @@ pub const CHOICES: usize = 256;
 pub const ENTRIES: usize = 64;
 pub const ARRIVALS: usize = 4_096;
 pub const ARROWS_DOWN: usize = 255;
+
+/// Request L3: "a row of up to 32 lengths".
+pub const QUESTIONS: usize = 32;
 
 /// "The book and the question, as bytes": sorts are 0 to 63, a symbol's length is 2 to 10.
 pub const HIGHEST_SORT: u8 = 63;

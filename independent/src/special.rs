@@ -417,6 +417,101 @@ pub fn shared_choices(random: &mut Random) -> Made {
     (book, top)
 }
 
+/// Chains of up to some 240 forwards (request L7), with users that follow them from their start, from the middle, or only when the
+/// whole chain is there.
+pub fn forward_chains(random: &mut Random) -> Made {
+    let mut book = numbers();
+    let same = add(&mut book, operation(0, &[0], Rule(Variable(0))));
+    let low = down(&mut book);
+    let count = random.from(1, 4);
+    let long = random.percent(40);
+    let mut inner = match random.below(5) {
+        0 => leaf(Z),
+        1 => or(leaf(Z), one(S, leaf(Z))),
+        2 => Fail,
+        3 => one(low, number(random, 3)),
+        _ => number(random, 3),
+    };
+    for _ in 0..count {
+        let length = if long { random.from(45, 60) } else { random.from(1, 12) };
+        inner = match random.below(3) {
+            // the forwards of a question itself
+            0 if inner.nodes() < 20 => times(same, length.min(30), inner),
+            _ => one(add(&mut book, operation(0, &[0], Rule(times(same, length, Variable(0))))), inner),
+        };
+    }
+    // A first user, then others of the same argument: in the same constructor, below it, in a branch, or behind forwards of their own.
+    let user = |random: &mut Random| match random.below(6) {
+        0 => Variable(0),
+        1 => one(S, Variable(0)),
+        2 => one(low, Variable(0)),
+        3 => one(S, one(low, one(same, Variable(0)))),
+        4 => one(S, times(same, random.from(1, 4), Variable(0))),
+        _ => one(same, Variable(0)),
+    };
+    let mut rule = user(random);
+    for _ in 0..random.from(0, 3) {
+        rule = if random.percent(70) { two(P, rule, user(random)) } else { two(P, user(random), rule) };
+    }
+    let users = add(&mut book, operation(0, &[0], Rule(rule)));
+    let top = one(users, inner);
+    let top = match random.below(5) {
+        0 => or(top, leaf(Z)),
+        1 => two(P, number(random, 2), top),
+        2 => one(low, top),
+        _ => top,
+    };
+    (book, top)
+}
+
+/// Runs that take many nodes in all and few at a time (request L10): circles that drop what they made, counters in counters that end,
+/// sides of choices that fail; some choose on the way.
+pub fn used_again(random: &mut Random) -> Made {
+    let mut book = numbers();
+    let low = down(&mut book);
+    let same = add(&mut book, operation(0, &[0], Rule(Variable(0))));
+    // What is made and not used: S^n Z, or with some choices in it.
+    let mut waste = leaf(Z);
+    if random.percent(40) {
+        waste = (0..random.from(1, 9)).fold(waste, |rest, _| or(rest, leaf(Z)));
+    }
+    let waste = times(S, random.from(1, 40), waste);
+    // spin(x) = spin(waste): what x was is over.
+    let spin = book.symbols.len();
+    add(&mut book, operation(0, &[0], Rule(one(spin, waste.clone()))));
+    // count(n, x) = Z at Z, at S m: count(m, waste)
+    let count = book.symbols.len();
+    let again = Rule(two(count, Variable(2), waste));
+    add(&mut book, operation(0, &[0, 0], by(0, Rule(leaf(Z)), again, Rule(leaf(Z)))));
+    // outer(S n, x) = outer(n, count(S^k Z, x)), and looks at it first
+    let outer = book.symbols.len();
+    let turn = two(outer, Variable(2), two(count, times(S, random.from(1, 20), leaf(Z)), Variable(1)));
+    let inner = Branch(1, vec![Rule(turn.clone()), Rule(turn), Exempt]);
+    add(&mut book, operation(0, &[0, 0], by(0, Rule(Variable(1)), inner, Exempt)));
+    // tries(x): a choice whose left side fails after some work
+    let work = two(count, times(S, random.from(1, 6), leaf(Z)), leaf(Z));
+    let fails = add(&mut book, operation(0, &[0], by(0, Exempt, Rule(leaf(Z)), Exempt)));
+    let tries = add(&mut book, operation(0, &[0], Rule(or(one(fails, work), one(same, Variable(0))))));
+    let part = |random: &mut Random| match random.below(6) {
+        0 => one(spin, number(random, 5)),
+        1 => two(count, number(random, 20), number(random, 5)),
+        2 | 3 => two(outer, number(random, 12), leaf(Z)),
+        4 => times(tries, random.from(1, 6), number(random, 3)),
+        _ => one(low, or(number(random, 6), one(low, number(random, 4)))),
+    };
+    let mut top = part(random);
+    for _ in 0..random.below(3) {
+        let next = part(random);
+        top = match random.below(4) {
+            0 => or(top, next),
+            1 => two(P, top, next),
+            2 => or(next, one(tries, top)),
+            _ => one(S, two(P, next, top)),
+        };
+    }
+    (book, top)
+}
+
 /// A book of usual functions: truth values, numbers, lists with nondeterministic insertion, sharing.
 pub fn usual(random: &mut Random) -> Made {
     // Sort 0: truth values; 1: numbers; 2: lists of numbers; 3: pairs of truth values.

@@ -1,8 +1,12 @@
 //! The worked cases of "The small book and what it gives", and some of the tables, as tests.
 
-use crate::evaluator::{evaluate, Decision, Entry, Memory, Outcome};
+use crate::evaluator::{evaluate, start, Asked, Decision, Entry, Memory, Outcome};
 use crate::expand::expand;
+use crate::requests::Requests;
 use crate::seen::Seen;
+
+/// Document 01's cases are without requests L7 and L10; `later.rs` has those.
+const PLAIN: Requests = Requests { shorten: false, again: false };
 
 const SMALL_BOOK: &str =
     "01 0012 020000 020000 0401000000 020100 03010000 0021 000F 0200 010001 0201 01010001 01010000 \
@@ -32,13 +36,13 @@ fn marked(nodes: usize, places: usize, answers: usize) -> Memory {
 
 fn run_book(book: &[u8], question: &[u8], fuel: u32, nodes: usize, places: usize, answers: usize) -> (Outcome, Memory) {
     let mut memory = marked(nodes, places, answers);
-    let outcome = evaluate(book, question, fuel, &mut memory, &mut Seen::default());
+    let outcome = start(PLAIN, book, Asked::One(question), fuel, &mut memory, &mut Seen::default());
     (outcome, memory)
 }
 
 fn of(number: u8, place: usize, counts: [usize; 5]) -> Outcome {
     let [turns, answers, nodes, choices, waiting] = counts;
-    Outcome { number, place, turns: turns as u32, answers, nodes, choices, waiting }
+    Outcome { number, place, turns: turns as u32, answers, nodes, choices, waiting, question: 0 }
 }
 
 fn input(book: &[u8], question: &[u8], fuel: u32) -> Vec<u8> {

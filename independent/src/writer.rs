@@ -4,8 +4,8 @@
 //! those of the trees (codes, variables and symbols in the order written, each one number).
 
 use crate::admit::{self, Book, Expression, Symbol, Tree};
-use crate::edges::{lengthy, two};
 use crate::encode;
+use crate::lent::{lengthy, two};
 use crate::make::{self, Made};
 use crate::random::Random;
 use crate::seen::Seen;
