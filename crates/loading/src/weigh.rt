@@ -1,9 +1,9 @@
 // What questions come to before anything is made.
 ghost use mathlib.Core.Path.{_≡_};
 ghost use Rattle.loading.specs.Questions.{WeighTold, WeighRowTold, SumTold, refusedAs};
-use question::read_question;
 use limits::Limits;
 use making::size_expr;
+use question::read_question;
 use reading::Reading;
 use reading::between;
 use reading::part_of;
