@@ -39,7 +39,7 @@ use Rattle.tagged.specs.Write.{Outcome as ListingBook}
 use Rattle.tagged.specs.Saved.{Outcome as SavedAs}
 use Rattle.listings.specs.Putting.{outcomeOf as listedAs}
 use Rattle.circles.specs.Saving.{outcomeOf as savedBy}
-use Rattle.tallies.specs.InCode.{leftOf, AddedAs, Less}
+use Rattle.tallies.specs.InCode.{Less}
 use Rattle.figures.specs.declared.Figured.{Figured}
 use Rattle.figures.specs.Figures.{Outcome as Figures}
 use Rattle.figures.specs.InCode.{after as figuredAs}
@@ -146,7 +146,8 @@ one-saved r r′ row row′ one other =
     (ap back same, ap (λ (o : SavedAs). o .row) same)
 
 -- what is answered of an answer's symbols, and the totals after it
-pub one-added : {t : Reading (List ℕ)} {row : List ℕ} (r r′ : Answered) (row′ row″ : List ℕ) → AddedAs t r row row′ → AddedAs t r′ row row″ → (r ≡ r′) × (row′ ≡ row″)
+pub one-added : {t : Reading ℕ} {left : List ℕ} (r r′ : Answered) (row′ row″ : List ℕ)
+    → (readingOf r ≡ t) × (row′ ≡ left) → (readingOf r′ ≡ t) × (row″ ≡ left) → (r ≡ r′) × (row′ ≡ row″)
 one-added r r′ row′ row″ one other = (one-reading r r′ (one .0) (other .0), one-value (one .1) (other .1))
 
 -- totals from which so many were taken
