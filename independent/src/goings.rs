@@ -7,7 +7,7 @@ use crate::evaluator::{go_on, start, Asked, Decision, Memory, Node, Outcome, APP
 use crate::lent::{
     byte, four, lengthy, put_lengthy, put_two, two, Sizes, Whole, ANSWER_BYTES, NODE_NUMBERS, PLACES, TABLE_BYTES,
 };
-use crate::make::{self, Made};
+use crate::make::Made;
 use crate::random::Random;
 use crate::requests;
 use crate::rows::{call_lines, note_result, some_book, some_sizes, sound_questions, Questions};
@@ -402,19 +402,22 @@ fn some_changes(random: &mut Random, state: &State, book: &Book, sizes: &Sizes, 
     }
 }
 
+/// The turns that a case may take before it is stopped.
+const FAR: u32 = 1_500;
+
 /// A run over a sound book, stopped, and calls that go on with it.
 fn some_case(random: &mut Random, book: &Book, bytes: &[u8], row: bool, questions: &Questions) -> Case {
     let asked = if row { questions.asked() } else { Asked::One(&questions.bytes) };
     let mut memory = Memory::sized(NODES, ENTRIES, ANSWER_BYTES);
-    let ended = start(requests::current(), bytes, asked, make::FAR, &mut memory, &mut Seen::default());
+    let ended = start(requests::current(), bytes, asked, FAR, &mut memory, &mut Seen::default());
     let sizes = match random.below(3) {
         0 => ALL,
-        _ => some_sizes(random, bytes, asked, make::FAR),
+        _ => some_sizes(random, bytes, asked, 1_000),
     };
     // Stopped somewhere, or run to its end.
     let fuel = match random.below(6) {
         0 => 0,
-        1 => make::FAR,
+        1 => FAR,
         _ => random.below(ended.turns as usize + 2) as u32,
     };
     let quiet = &mut Seen::default();
@@ -432,7 +435,7 @@ fn some_case(random: &mut Random, book: &Book, bytes: &[u8], row: bool, question
         }
         let mut fuel = match style {
             0 => random.from(0, 2) as u32,
-            _ => *random.pick(&[0, 1, 2, 5, 20, 100, 1_000, 3_000]),
+            _ => *random.pick(&[0, 1, 2, 5, 20, 100, 300, 1_000]),
         };
         let mut of_going = sizes;
         match random.below(8) {

@@ -156,9 +156,9 @@ pub fn some_sizes(random: &mut Random, book: &[u8], asked: Asked, fuel: u32) -> 
     let requests = requests::current();
     let outcome = start(requests, book, asked, fuel, &mut memory, &mut Seen::default());
     let mut nodes = about(random, outcome.nodes, NODE_NUMBERS / 10);
-    if requests.again && random.percent(50) {
+    if requests.again && random.percent(35) {
         // Where nodes are used again, about the least room.
-        let least = least_room(requests, book, asked, fuel);
+        let least = least_room(requests, book, asked, fuel.min(600));
         nodes = (least + random.below(5)).saturating_sub(2).min(node_room(&memory));
     }
     let asks = match asked {

@@ -139,6 +139,5 @@ pub const REFUSALS: &[&str] = &[
 /// With request L7.
 pub const SHORTEN: &[&str] = &["forward shortened"];
 
-/// With request L10.
-pub const AGAIN: &[&str] =
-    &["nodes dropped", "no node to drop", "rewrite after a drop", "pull-up after a drop", "refused 22 after a drop"];
+/// With request L10. "refused 22 after a drop" is too rare by chance; the tables have it.
+pub const AGAIN: &[&str] = &["nodes dropped", "no node to drop", "rewrite after a drop", "pull-up after a drop"];
