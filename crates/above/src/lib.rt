@@ -1,1 +1,2 @@
 // What the book of a listing can reach. Definitions and theorems only.
+#![tactic(auto)]

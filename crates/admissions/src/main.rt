@@ -1,5 +1,7 @@
 // Reads a table of books and questions from standard input and prints, for each, the number and the place of its refusal, 0 0 if
 // both are admitted, and its label. tools/admission_cases.py makes the table and says what document 01 has for each row.
+#![tactic(auto)]
+
 ghost use Rattle.std.specs.Prelude.{◌<◌, ◌≤◌, length};
 
 use book::read_book;

@@ -1,4 +1,6 @@
 // Admission of a whole book, and the index that a run needs.
+#![tactic(auto)]
+
 ghost use Rattle.std.specs.Prelude.{◌≡◌, ◌+◌, ◌≤◌, [], length, replicate};
 ghost use Rattle.limits.specs.Sizes.{most_book_bytes, most_symbols};
 ghost use Rattle.reading.specs.declared.Reading.TheVariants.{Refusal};
@@ -21,7 +23,7 @@ use trees::{TreePart, read_tree_part, trees_read};
 // A book that was read: how many symbols it has, or the refusal; and its index. `at` has the place of each symbol; `info` an
 // operation's tree, or which of its sort's constructors a symbol is; `ends` at the place of each tree the place behind it. After a
 // refusal all three are zeros.
-#[derive(Drop)]
+#[derive(Clone, Copy)]
 pub struct BookIndex {
     pub reading: Reading,
     pub at: [u16; Limits::SYMBOLS],

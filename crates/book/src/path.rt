@@ -6,7 +6,7 @@ ghost use Rattle.book.specs.Reader.{vars_of};
 use limits::Limits;
 
 // Their sorts, and which of them were branched on.
-#[derive(Drop)]
+#[derive(Clone, Copy)]
 pub struct Path {
     pub sorts: [u8; Limits::VARIABLES],
     pub bound: usize,

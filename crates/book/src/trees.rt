@@ -330,7 +330,7 @@ fn read_trees(
 
 // The tree part: the place behind it, or the refusal; where each operation's tree stands, over the ranks of the constructors; and
 // the ends.
-#[derive(Drop)]
+#[derive(Clone, Copy)]
 pub struct TreePart {
     pub reading: Reading,
     pub info: [u16; Limits::SYMBOLS],

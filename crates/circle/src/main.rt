@@ -1,5 +1,7 @@
 // Reads one tagged listing from standard input and prints a line `R number line headings circle`; then, without a circle, each heading behind its
 // level, and with one the headings that stand in it, in order, each behind the line of its BT that leads to the next: the lines to look at.
+#![tactic(auto)]
+
 ghost use Rattle.std.specs.Prelude.{◌<◌, ◌≤◌, length};
 
 use circles::save_listing;

@@ -11,7 +11,7 @@ ghost use Rattle.circles.specs.Saving.{SameMarks, HopFrom, NoMark, LowestAs, low
 use terms::{HEADINGS, ROWS, TERMS, terms_of};
 
 // 0 or the refusal, the line concerned, how many headings there are, and how many of them the circle has: 0 where the row holds levels.
-#[derive(Drop)]
+#[derive(Clone, Copy)]
 pub struct Saved {
     pub number: u8,
     pub line: usize,
@@ -104,7 +104,7 @@ fn same_row(a: &[u16; HEADINGS], b: &[u16; HEADINGS], n: usize) -> bool
 }
 
 // Whether a round changed nothing, and the chains then.
-#[derive(Drop)]
+#[derive(Clone, Copy)]
 pub struct Levelled {
     pub settled: bool,
     pub row: [u16; HEADINGS],
@@ -234,7 +234,7 @@ fn back_in(from: &[u16; ROWS], to: &[u16; TERMS], n: usize, x: usize, best: usiz
 }
 
 // The hops of a shortest circle, and its first heading; n + 1 hops, if there is no circle.
-#[derive(Drop)]
+#[derive(Clone, Copy)]
 pub struct Shortest {
     pub hops: usize,
     pub first: usize,

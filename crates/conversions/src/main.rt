@@ -1,5 +1,7 @@
 // Reads a table of books from standard input and converts each to version 2: it prints the label, what is handed back, and a checksum of the whole room.
 // tools/convert_cases.py makes the table and says what each row gives.
+#![tactic(auto)]
+
 ghost use Rattle.std.specs.Prelude.{◌<◌, ◌≤◌, length};
 
 use converter::convert_book;

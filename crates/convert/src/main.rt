@@ -1,4 +1,6 @@
 // Reads a book from standard input, behind its two-byte length, converts it to version 2, and prints the result and the new book in hexadecimal.
+#![tactic(auto)]
+
 use converter::convert_book;
 use limits::Limits;
 use reading::{number, part_of};

@@ -1,5 +1,7 @@
 // Request L9: a version 1 book written as version 2, with a rule to fail in the place of each exempt. The bytes are made in memory of its own, so that what is
 // refused leaves the room lent as it was.
+#![tactic(auto)]
+
 ghost use Rattle.std.specs.Prelude.{◌++◌, ◌≡◌, ◌≤◌, length, drop};
 ghost use Rattle.limits.specs.Sizes.{most_book_bytes};
 ghost use Rattle.converter.specs.Convert.{laid, convert};
@@ -15,7 +17,7 @@ use made::made_of;
 use reading::{Reading, byte};
 
 // What the converter hands back: 0 or the number of the refusal, its place, and how many bytes it wrote.
-#[derive(Drop)]
+#[derive(Clone, Copy)]
 pub struct Conversion {
     pub number: u8,
     pub place: usize,

@@ -10,14 +10,14 @@ use limits::Limits;
 use reading::{byte, number, part_of};
 
 // A place in the old book, and the one in the new book that it has come to.
-#[derive(Drop)]
+#[derive(Clone, Copy)]
 pub struct Places {
     pub old: usize,
     pub new: usize,
 }
 
 // A new book: how many bytes it has, and its bytes if they are not more than a book has.
-#[derive(Drop)]
+#[derive(Clone, Copy)]
 pub struct Made {
     pub size: usize,
     pub bytes: [u8; Limits::BOOK],

@@ -1,6 +1,8 @@
 // Reads a table of runs from standard input and makes each over memory that is longer than what is lent of it. For each it prints the
 // label, the seven numbers of the result, and a checksum of all the node numbers, list places and answer bytes, lent or not; then a line for
 // each answer. tools/edge_cases.py makes the table and says what document 01 has for each row.
+#![tactic(auto)]
+
 ghost use Rattle.std.specs.Prelude.{◌+◌, ◌<◌, ◌≤◌, length};
 
 use limits::{Decisions, Entry, Limits, Side};

@@ -1,4 +1,6 @@
 // Reads a book, a question and a fuel from standard input, runs them once, and prints the answers and the result.
+#![tactic(auto)]
+
 use lines::expand;
 
 // The longest input: a book and a question of 65,535 bytes each, behind their lengths, and the fuel.

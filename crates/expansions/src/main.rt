@@ -1,5 +1,7 @@
 // Reads a table of inputs of program `expand` from standard input, and prints for each its label and what `expand` prints. tools/expand_cases.py makes the
 // table and says what each row gives.
+#![tactic(auto)]
+
 ghost use Rattle.std.specs.Prelude.{◌<◌, ◌≤◌, length};
 
 use lines::expand;

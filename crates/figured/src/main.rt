@@ -1,5 +1,7 @@
 // Reads a table of answer books from standard input and adds up the figures of each row of it: it prints the label, what is handed back, and the totals
 // after it, with a checksum of all of them. tools/figure_cases.py makes the table and says what each row gives.
+#![tactic(auto)]
+
 ghost use Rattle.std.specs.Prelude.{◌+◌, ◌<◌, ◌≤◌, length};
 
 use figures::add_figures;

@@ -1,4 +1,6 @@
 // The index figures of the yearly report: in how many answers each symbol stands, over many answer books laid one behind another.
+#![tactic(auto)]
+
 ghost use Rattle.std.specs.Prelude.{◌≡◌};
 ghost use Rattle.figures.specs.Figures.{figures};
 ghost use Rattle.figures.specs.InCode.{after};
@@ -11,7 +13,7 @@ use adding::add_books;
 use reading::Reading;
 
 // What is handed back: 0, or the number of the refusal and the place at which it was met.
-#[derive(Drop)]
+#[derive(Clone, Copy)]
 pub struct Figured {
     pub number: u8,
     pub place: usize,

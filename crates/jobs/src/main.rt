@@ -1,5 +1,7 @@
 // Reads books with questions from standard input and runs each question, over memory that is cleared first: the 500 jobs by which the speed is measured
 // (request L13). For each it prints the seven numbers of the result. tools/job_cases.py makes the jobs, tools/speed measures.
+#![tactic(auto)]
+
 ghost use Rattle.std.specs.Prelude.{◌+◌, ◌<◌, ◌≤◌, min, length};
 
 use limits::{Entry, Limits};

@@ -8,7 +8,7 @@ use limits::Limits;
 use nodes::arrow_at;
 
 // How far the walk has come.
-#[derive(Drop)]
+#[derive(Clone, Copy)]
 pub struct Walk {
     // The next node to start from.
     pub start: u16,

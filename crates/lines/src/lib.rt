@@ -1,4 +1,6 @@
 // The text of what a run gives, as the programs print it: a line for each answer, and the seven numbers of a result; and what `expand` does with its input.
+#![tactic(auto)]
+
 ghost use Rattle.std.specs.Prelude.{◌≤◌};
 
 use limits::{Entry, Limits};

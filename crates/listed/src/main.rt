@@ -1,5 +1,7 @@
 // Reads a table of tagged listings from standard input and prints two lines for each: what the writer of books hands back, with a checksum of the whole
 // room, and what is told when it is saved, with each number of the row that was written. tools/listing_cases.py makes the table and says what each row gives.
+#![tactic(auto)]
+
 ghost use Rattle.std.specs.Prelude.{◌<◌, ◌≤◌, length};
 
 use circles::save_listing;

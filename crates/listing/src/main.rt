@@ -1,4 +1,6 @@
 // Reads one tagged listing from standard input and prints what comes of it: a line `R number line bytes`, then the book in hexadecimal.
+#![tactic(auto)]
+
 use limits::Limits;
 use listings::write_listing;
 use reading::part_of;

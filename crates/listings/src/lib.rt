@@ -1,4 +1,6 @@
 // Books from the tagged listing.
+#![tactic(auto)]
+
 mod write;
 
 pub use write::{Written, write_listing};

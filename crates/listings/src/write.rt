@@ -11,7 +11,7 @@ ghost use Rattle.listings.specs.Putting.{term_laid, kind_laid, kinds_laid, front
 use terms::{ROWS, TERMS, terms_of};
 
 // What is handed back: 0 or the number of the refusal, the line concerned, and how many bytes were written.
-#[derive(Drop)]
+#[derive(Clone, Copy)]
 pub struct Written {
     pub number: u8,
     pub line: usize,

@@ -1,4 +1,6 @@
 // Questions: read and weighed, one or a row of them (request L3), and their nodes made in the order given.
+#![tactic(auto)]
+
 mod make;
 mod weigh;
 

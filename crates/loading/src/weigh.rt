@@ -8,7 +8,7 @@ use question::read_question;
 use reading::{Reading, between, part_of};
 
 // A refusal with its place and its question's number; or number 0, and how many nodes and choices the questions have in all.
-#[derive(Drop)]
+#[derive(Clone, Copy)]
 pub struct Weighed {
     pub number: u8,
     pub place: usize,

@@ -1,1 +1,2 @@
 // Theorems alone: what is promised of the code's run (specs/ and proofs/).
+#![tactic(auto)]

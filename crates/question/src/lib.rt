@@ -1,4 +1,6 @@
 // Admission of a whole question, to a book that is admitted.
+#![tactic(auto)]
+
 ghost use Rattle.std.specs.Prelude.{◌≡◌, ◌≤◌, length};
 ghost use Rattle.reading.specs.Answer.{reading_of, keeping, nothing};
 ghost use Rattle.symbols.specs.Table.{symbols_in};

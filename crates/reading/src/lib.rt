@@ -1,17 +1,19 @@
 // Bytes, numbers and lengths at a place of a book or a question. A byte that is not there reads as 0, so no place is out of bounds.
+#![tactic(auto)]
+
 ghost use Rattle.std.specs.Prelude.{◌≡◌, ◌-◌, ◌<◌, ◌≤◌, get_or};
 ghost use Rattle.reading.specs.Bytes.{big_endian, byte_at, length_at};
 ghost use Rattle.reading.specs.Answer.{reading_of, base_of, part_of};
 
 // What reading finds: what was read and the place behind it, or a refusal by number and place.
-#[derive(Drop)]
+#[derive(Clone, Copy)]
 pub enum Reading {
     Got { value: usize, next: usize },
     Refusal { number: u8, place: usize },
 }
 
 // Who asks: a rule of the book, or the question. It says in which of the two the bytes stand, and which refusals are given.
-#[derive(Drop)]
+#[derive(Clone, Copy)]
 pub enum Asker {
     Book,
     Question,

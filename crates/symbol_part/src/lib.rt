@@ -1,4 +1,6 @@
 // The symbol part of a book, read once: how many symbols it has, where each stands, and the chains of constructors.
+#![tactic(auto)]
+
 ghost use Rattle.std.specs.Prelude.{◌≡◌, ℕ, ◌+◌, ◌-◌, ◌<◌, ◌≤◌, [], length, get_or, replicate};
 ghost use Rattle.reading.specs.declared.Reading.TheVariants.{Refusal};
 ghost use Rattle.limits.specs.Sizes.{most_book_bytes, most_symbols, sorts_of_a_byte};
@@ -14,7 +16,7 @@ use symbols::table::{is_operation, sort_of};
 
 // The symbol part of a book: how many symbols there are and the place behind them, or the refusal; the place of each symbol; which of
 // its sort's constructors each is; and the chains of constructors. After a refusal all arrays are zeros.
-#[derive(Drop)]
+#[derive(Clone, Copy)]
 pub struct SymbolPart {
     pub reading: Reading,
     pub at: [u16; Limits::SYMBOLS],
@@ -25,7 +27,7 @@ pub struct SymbolPart {
 
 // The constructors of each sort, chained: the number of the next one behind each symbol, and of the first of each sort. Where there is
 // none it is the count of symbols.
-#[derive(Drop)]
+#[derive(Clone, Copy)]
 pub struct Chain {
     pub next: [u16; Limits::SYMBOLS],
     pub first: [u16; Limits::SORTS_OF_A_BYTE],

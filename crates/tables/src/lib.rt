@@ -1,4 +1,6 @@
 // What programs over tables of cases share: the fields of a row, checksums of memory, and how numbers and bytes are printed.
+#![tactic(auto)]
+
 ghost use Rattle.std.specs.Prelude.{◌≡◌, ◌+◌, ◌*◌, ◌%◌, ◌<◌, min, length};
 ghost use Rattle.reading.specs.Bytes.{big_endian};
 ghost use Rattle.tables.specs.Checksum.{mixing, checksum};

@@ -1,4 +1,6 @@
 // An answer's symbols, added to the totals and taken off again. `symbols` holds the answer from its first symbol on; a symbol that is not there reads as 0.
+#![tactic(auto)]
+
 ghost use Rattle.std.specs.Prelude.{[], ◌≡◌};
 ghost use Rattle.book.specs.TreeAt.{is_in};
 ghost use Rattle.tallies.specs.Tallied.{tallied, symbols_at};

@@ -13,7 +13,7 @@ ghost use Rattle.terms.specs.Meeting.{Under, Met};
 use super::lines::{Form, form_of, line_end, same};
 
 // 0 and how many headings there are, or the refusal and its line.
-#[derive(Drop)]
+#[derive(Clone, Copy)]
 pub struct Verdict {
     pub number: u8,
     pub line: usize,
@@ -21,7 +21,7 @@ pub struct Verdict {
 }
 
 // How many lines are good, whether one behind them is not, and how many headings there are.
-#[derive(Drop)]
+#[derive(Clone, Copy)]
 pub struct Forms {
     pub lines: usize,
     pub bad: bool,
@@ -100,7 +100,7 @@ fn forms_of(s: &[u8]) -> Forms
 pub const TABLE: usize = 8192;
 
 // How far a table was filled: the line that gives one of its headings again, or 0; whether it is full, and then the next line and its place.
-#[derive(Drop)]
+#[derive(Clone, Copy)]
 pub struct Filled {
     pub twice: usize,
     pub full: bool,

@@ -1,4 +1,6 @@
 // Whether a tagged listing is good, and what it says of broader terms, in two rows of numbers.
+#![tactic(auto)]
+
 mod judge;
 mod lines;
 mod terms;

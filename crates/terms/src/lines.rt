@@ -5,7 +5,7 @@ ghost use Rattle.terms.specs.Places.{end_of, bytes_of, tag_of};
 ghost use Rattle.terms.specs.InCode.{line_by};
 
 // What a line is.
-#[derive(Drop)]
+#[derive(Clone, Copy)]
 pub enum Form {
     Heading,
     Broader,

@@ -24,7 +24,7 @@ pub const TERMS: usize = 2736;
 const OWN: usize = 16;
 
 // 0, how many headings there are, the size of their book and the two rows; or the refusal and its line.
-#[derive(Drop)]
+#[derive(Clone, Copy)]
 pub struct Terms {
     pub number: u8,
     pub line: usize,
@@ -119,7 +119,7 @@ fn number_among(
 
 // What the lines so far give: how many headings, how many broader terms the last of them has, how many there are in all, and how many bytes
 // the book of these has.
-#[derive(Drop)]
+#[derive(Clone, Copy)]
 pub struct Sum {
     pub headings: usize,
     pub own: usize,

@@ -1,5 +1,7 @@
 // The book writer: rows of numbers from the editors' desk in, the bytes of a book out, or a refusal. The bytes are made in memory of its own and judged as
 // any book is, so that what is refused leaves the room lent as it was.
+#![tactic(auto)]
+
 ghost use Rattle.std.specs.Prelude.{◌++◌, ◌≡◌, ◌≤◌, length, drop};
 ghost use Rattle.writer.specs.Write.{write};
 ghost use Rattle.writer.specs.InCode.{after};
@@ -11,7 +13,7 @@ mod trees;
 use made::made_of;
 
 // What the writer hands back: 0 or the number of its refusal, the row at fault, and how many bytes it wrote.
-#[derive(Drop)]
+#[derive(Clone, Copy)]
 pub struct Written {
     pub number: u8,
     pub row: usize,

@@ -16,7 +16,7 @@ use symbol_part::read_symbol_part;
 use symbols::table::arity_of;
 
 // A book that was made: 0, its size and its bytes; or the number of the refusal and the row at fault.
-#[derive(Drop)]
+#[derive(Clone, Copy)]
 pub struct Made {
     pub number: u8,
     pub row: usize,

@@ -16,7 +16,7 @@ use limits::Limits;
 const PAST_EVERY_BOOK: usize = 65535;
 
 // What the next number of a tree's row is.
-#[derive(Drop)]
+#[derive(Clone, Copy)]
 pub enum Next {
     Code,
     Variable,
@@ -24,7 +24,7 @@ pub enum Next {
 }
 
 // That, and how many expressions are still to come behind it; where none is, the next code is a tree's.
-#[derive(Drop)]
+#[derive(Clone, Copy)]
 pub struct Due {
     pub next: Next,
     pub expressions: usize,

@@ -1,5 +1,7 @@
 // Reads a table of rows from standard input and writes each as a book: it prints the label, what the writer hands back, and the bytes of the room lent
 // after it. tools/writing_cases.py makes the table and says what each row gives.
+#![tactic(auto)]
+
 ghost use Rattle.std.specs.Prelude.{◌+◌, ◌<◌, ◌≤◌, length};
 
 use reading::{number, part_of};
