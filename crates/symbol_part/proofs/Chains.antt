@@ -160,13 +160,19 @@ module _ (symbols : Symbols) where
       }
 
       module _ (constructor : (symbol_of symbols f).is_operation ≡ false) where
+        own_sort : is_constructor_of s (symbol_of symbols f) ≡ true
+        unfolding is_constructor_of
+        own_sort = rw (constructor, is_constructor_of, its-sort, eq-eqb s s refl)
+
+        other_sort : (t : ℕ) → (t ≡ s → ⊥) → is_constructor_of t (symbol_of symbols f) ≡ false
+        unfolding is_constructor_of
+        other_sort t other = rw (constructor, is_constructor_of, its-sort, ne_eqb s t (λ e. other (sym e)))
+
         -- it is the first one of its own sort
         known_more : (t : ℕ) → t < sorts_of_a_byte → Dec (t ≡ s) → get_or (set first s f) t 0 ≡ first_from t (drop f symbols) f
-        unfolding is_constructor_of first_from
-        known_more t small' (yes own) =
-            rw (own, get_or-set_same first s f 0 (omega (arith, r.sorts)), on, constructor, is_constructor_of, its-sort, eq-eqb s s refl, first_from)
-        known_more t small' (no other) =
-            get_or-set_other first s t f 0 other ∙ passed_over t small' (rw (constructor, is_constructor_of, its-sort, ne_eqb s t (λ e. other (sym e))))
+        unfolding first_from
+        known_more t small' (yes own) = rw (own, get_or-set_same first s f 0 (omega (arith, r.sorts)), on, own_sort, first_from)
+        known_more t small' (no other) = get_or-set_other first s t f 0 other ∙ passed_over t small' (other_sort t other)
 
         -- a constructor is from now on the first one of its sort
         pub chained-constructor : Chained symbols f (set next f (get_or first s 0)) (set first s f)
