@@ -171,7 +171,9 @@ module _ (symbols : Symbols) where
         -- it is the first one of its own sort
         known_more : (t : ℕ) → t < sorts_of_a_byte → Dec (t ≡ s) → get_or (set first s f) t 0 ≡ first_from t (drop f symbols) f
         unfolding first_from
-        known_more t small' (yes own) = rw (own, get_or-set_same first s f 0 (omega (arith, r.sorts)), on, own_sort, first_from)
+        known_more t small' (yes own) =
+            let its : is_constructor_of t (symbol_of symbols f) ≡ true = rw own own_sort in
+            rw (on, its, first_from) (rw own (get_or-set_same first s f 0 (omega (arith, r.sorts))))
         known_more t small' (no other) = get_or-set_other first s t f 0 other ∙ passed_over t small' (other_sort t other)
 
         -- a constructor is from now on the first one of its sort
