@@ -1,0 +1,29 @@
+-- `read_variable` meets its contract: it refuses where the byte is not there, the variable is not bound or its sort is wrong.
+use native.Mathlib.Omega.{arith}
+use lib.ListN.{length}
+use Rattle.reading.specs.Answer.{base_of}
+use Rattle.expressions.proofs.Ways.{variable-past, variable_unbound, variable-other, variable-got}
+use Rattle.expressions.proofs.read_variable.Goals as goal
+
+pub returns-then-between-lt2 : goal.returns-then-between-lt2
+returns-then-between-lt2 c =
+    let a = c.args in
+    variable-past a.s.now (base_of a.who) (length a.s.now) a.vars.now a.sort a.left a.p c.base_of.ensures.0 (omega arith)
+
+pub returns-then-vars-x : goal.returns-then-vars-x
+returns-then-vars-x c =
+    let a = c.args in
+    variable_unbound a.s.now (base_of a.who) (length a.s.now) a.vars.now a.sort a.left a.p
+    c.wide_byte-x.ensures.0 (omega arith) c.base_of-then-vars-x.ensures.0 c.if-vars-x.true
+
+pub returns-then-vars-x-2 : goal.returns-then-vars-x-2
+returns-then-vars-x-2 c =
+    let a = c.args in
+    variable-other a.s.now (base_of a.who) (length a.s.now) a.vars.now a.sort a.left a.p
+    c.wide_byte-x.ensures.0 (omega arith) c.if-vars-x.false c.base_of-then-vars-x-2.ensures.0 c.if-vars-x-2.true
+
+pub returns : goal.returns
+returns c =
+    let a = c.args in
+    variable-got a.s.now (base_of a.who) (length a.s.now) a.vars.now a.sort a.left a.p
+    c.wide_byte-x.ensures.0 (omega arith) c.if-vars-x.false c.if-vars-x-2.false
