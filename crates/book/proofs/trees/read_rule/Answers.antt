@@ -13,36 +13,21 @@ use Rattle.symbols.specs.Symbols.{Symbols}
 use Rattle.symbols.specs.Table.{symbols_in}
 use Rattle.expressions.specs.ExpressionAt.{left_of, whole_at}
 use Rattle.expressions.proofs.Parts.{whole_same}
-use Rattle.book.proofs.trees.read_rule.Statement.{statement}
-use Rattle.book.proofs.trees.read_rule.Tie as tie
+use Rattle.book.proofs.trees.read_rule.Goals as goal
 
 -- what is read in the part is read in the book
 in-part : (bs : List ℕ) (S : Symbols) (e : ℕ) (sorts : List ℕ) (bound sort p : ℕ) → e ≤ length bs
     → whole_at (part_of bs 0 e) 0 S (length (part_of bs 0 e)) (part_of sorts 0 bound) sort p ≡ whole_at bs 0 S e (take bound sorts) sort p
 in-part bs S e sorts bound sort p h = rw (sub-zero e, sub-zero bound, length-take-le e bs h) (whole_same bs 0 e S (take bound sorts) sort p)
 
-sub-read-whole : tie.Need-overflow-sub-read-whole
-sub-read-whole c = search rules
-
-part-read-whole-start : tie.Need-slice-bounds-read-whole-start
-part-read-whole-start c = search rules
-
-part-read-whole-end : tie.Need-slice-bounds-read-whole-end
-part-read-whole-end c =
-    let room : length c.before.before.before.before.args.path.sorts ≡ most_variables = search rules in
+pub slice_bounds-read_whole-end : goal.slice_bounds-read_whole-end
+slice_bounds-read_whole-end c =
+    let room : length c.args.path.sorts ≡ most_variables = search rules in
     omega arith
 
-read-whole-requires : tie.Need-read-whole-requires
-read-whole-requires c κs = search rules
-
-returns : tie.Need-returns
+pub returns : goal.returns
 returns c =
-    let s = c.before.before.before.before.before.before in
-    let a = s.args in
+    let s = c in
+    let a = c.args in
     c.read_whole.ensures
-    ∙ ap (keeping left_of) (in-part a.book.now (symbols_in a.book.now a.at.now) a.e a.path.sorts a.path.bound a.sort a.p s.requires.1)
-
-pub read-rule-spec : {M : Type 1} → statement M
-read-rule-spec =
-    tie.close
-    (tie.spec sub-read-whole part-read-whole-start part-read-whole-end read-whole-requires returns)
+    ∙ ap (keeping left_of) (in-part a.book.now (symbols_in a.book.now a.at.now) a.e a.path.sorts a.path.bound a.sort a.p c.requires.1)

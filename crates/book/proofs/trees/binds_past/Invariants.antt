@@ -1,0 +1,12 @@
+-- What the loops of `binds_past` keep.
+use mathlib.Core.Path.{◌≡◌}
+use Prim.Native.Nat.{◌-◌}
+use lib.ListN.{length}
+use Rattle.book.proofs.Constructors.{OnChain, past_from}
+use Rattle.book.proofs.trees.binds_past.Given as goal
+
+abbrev pub invariant-loop-f : goal.invariant-loop-f
+invariant-loop-f l = OnChain l.book l.at l.sort l.f × (past_from l.book l.at l.bound l.sort l.f ≡ past_from l.book l.at l.bound l.sort 0)
+
+abbrev pub decreases-loop-f : goal.decreases-loop-f
+decreases-loop-f l = length l.at - l.f
