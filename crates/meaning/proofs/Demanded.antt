@@ -130,3 +130,5 @@ module _ (B : Book) (h : Heap) (δ : ℕ → Side) (π : ℕ → Part) (σ : ℕ
       values no_values [] g le = inr AreValues.none
       values (more_values v vs) (x ∷ xs) (All.more g gs) (le ∷⊑ les) =
           ⊎_elim inl (λ a. ⊎_elim inl (λ r. inr (AreValues.more a r)) (values vs xs gs les)) (value v x g le)
+      values no_values (x ∷ xs) g le = elim le [ ]
+      values (more_values v vs) [] g le = elim le [ ]

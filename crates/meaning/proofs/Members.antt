@@ -43,6 +43,7 @@ module _ {A : Type 0} {P : A → Type 0} where
   pub any-map : {Q R : A → Type 0} {l : List A} → All Q l → ((a : A) → Q a → P a → R a) → Any P l → Any R l
   any-map (All.more q qs) f (first p) = first (f _ q p)
   any-map (All.more q qs) f (later p) = later (any-map qs f p)
+  any-map {Q = Q} {R = R} Rattle.rewriting.specs.Lists.none f x5 = elim x5 [ ]
 
   -- what holds of each holds of each in both parts
   pub all_split : (l : List A) {m : List A} → All P (l ++ m) → All P l × All P m

@@ -3,9 +3,9 @@
 use mathlib.Core.Bool.{true}
 use mathlib.Core.Path.{◌≡◌, refl, sym, subst, ◌∙◌}
 use mathlib.Core.List.{List, ◌++◌, map, map-append}
-use Prim.Native.Nat.{ℕ}
+use Prim.Native.Nat.{◌<◌, ℕ}
 use native.Mathlib.Decide.{ℕ_discrete}
-use lib.ListN.{get_or, length-map}
+use lib.ListN.{length, get_or, length-map}
 use Rattle.expressions.specs.Expressions.{Expr}
 use Rattle.book.specs.Trees.{Tree, Trees, tree_at}
 use Rattle.book.specs.Rules.{Book}
@@ -100,23 +100,13 @@ module _ (B : Book) (h : Heap) (δ : ℕ → Side) (F : ℕ → Type 0) where
       pub knows : map π env' ⊑ˡ vars
       pub kept : (q : ℕ) → F q → to q ≡ π q
 
-    -- the nodes that a path looks at may be raised so
-    pub raise_path : {π : ℕ → Part} {t : Tree} {env : List ℕ} {e : Expr} {env' : List ℕ}
-        → ((q c : ℕ) (xs : List ℕ) → at h q ≡ apply c xs → B.is_constructor c ≡ true → ¬ F q)
-        → ReadsBut π → Steers B h t env → Ends B h t env e env' → Followed π t env e env'
-    raise_path {π} {env} firm reads (Steers.rule s) Ends.rule = record {
-      to = π;
-      above = λ q. ⊑_refl (π q);
-      reads = reads;
-      vars = map π env;
-      hits = Hits.rule (rw (← length-map env π) at s);
-      knows = ⊑ˡ_refl (map π env);
-      kept = λ q free. refl;
-    }
-    raise_path {π} {env} firm reads (Steers.branch lt next) (Ends.branch {x = x} {m = m} {c = c} {xs = xs} l e k rest) =
-        let S = raise_path firm reads (next m c xs l e k) rest in
+    -- a branch on the way: its variable is raised to the constructor whose subtree the path goes on in
+    raise_branch : {π : ℕ → Part} {x : ℕ} {ts : Trees} {env : List ℕ} {m c : ℕ} {xs : List ℕ} {e : Expr} {env' : List ℕ} → x < length env
+        → Leads h (get_or env x 0) m → at h m ≡ apply c xs → B.is_constructor c ≡ true → ¬ F m
+        → Followed π (tree_at ts (B.place c)) (env ++ xs) e env' → Followed π (Tree.branch x ts) env e env'
+    raise_branch {π} {x} {ts} {env} {m} {c} {xs} lt l e k free S =
         let σ = S.to in
-        let T = raise_constructor l e k (firm m c xs e k) S.reads in
+        let T = raise_constructor l e k free S.reads in
         let τ = T.to in
         let (qs, is-con, more) = ⊑_con T.has in
         let le-xs : map σ xs ⊑ˡ to_list qs = rw to_list_of_list at (to_list_mono more) in
@@ -131,6 +121,23 @@ module _ (B : Book) (h : Heap) (δ : ℕ → Side) (F : ℕ → Type 0) where
           knows = ⊑ˡ_trans {rs = vars} S.knows le';
           kept = λ q free. T.kept q free ∙ S.kept q free;
         }
+
+    -- the nodes that a path looks at may be raised so
+    pub raise_path : {π : ℕ → Part} {t : Tree} {env : List ℕ} {e : Expr} {env' : List ℕ}
+        → ((q c : ℕ) (xs : List ℕ) → at h q ≡ apply c xs → B.is_constructor c ≡ true → ¬ F q)
+        → ReadsBut π → Steers B h t env → Ends B h t env e env' → Followed π t env e env'
+    raise_path {π} {env} firm reads (Steers.rule s) Ends.rule = record {
+      to = π;
+      above = λ q. ⊑_refl (π q);
+      reads = reads;
+      vars = map π env;
+      hits = Hits.rule (rw (← length-map env π) at s);
+      knows = ⊑ˡ_refl (map π env);
+      kept = λ q free. refl;
+    }
+    raise_path firm reads (Steers.branch lt next) (Ends.branch {m = m} {c = c} {xs = xs} l e k rest) =
+        raise_branch lt l e k (firm m c xs e k) (raise_path firm reads (next m c xs l e k) rest)
+    raise_path firm reads (Steers.exempt) x = elim x [ ]
 
 -- Of a whole reading, where no node is left out.
 abbrev pub Nowhere : ℕ → Type 0
