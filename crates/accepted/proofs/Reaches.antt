@@ -51,6 +51,7 @@ pub some_is : (bad : ℕ → Bool) (xs : List ℕ) {m : ℕ} → In m xs → bad
 unfolding some_of
 some_is bad (x ∷ xs) first e = or_left (bad x) (some_of bad xs) e
 some_is bad (x ∷ xs) (later i) e = or_right (bad x) (some_of bad xs) (some_is bad xs i e)
+some_is bad [] {m = m} x'' e = elim x'' [ ]
 
 pub some-has : (bad : ℕ → Bool) (xs : List ℕ) → some_of bad xs ≡ true → (m : ℕ) × In m xs × (bad m ≡ true)
 unfolding some_of
@@ -69,6 +70,7 @@ arrow_in_lem (apply f xs) (argument i) = i
 arrow_in_lem (choice i l r) left_side = first
 arrow_in_lem (choice i l r) right_side = later first
 arrow_in_lem (forward t) target = first
+arrow_in_lem {m = m} fail x'' = elim x'' [ ]
 
 pub in_arrow : {m : ℕ} (x : Node) → In m (arrows_of x) → Arrow m x
 unfolding arrows_of
@@ -76,6 +78,9 @@ in_arrow (apply f xs) i = argument i
 in_arrow (choice i l r) first = left_side
 in_arrow (choice i l r) (later first) = right_side
 in_arrow (forward t) first = target
+in_arrow {m = m} (choice i l r) (later (later x9)) = elim x9 [ ]
+in_arrow {m = m} fail i = elim i [ ]
+in_arrow {m = m} (forward t) (later x7) = elim x7 [ ]
 
 -- ---- paths
 

@@ -169,7 +169,7 @@ module _ (A C : Pairing) (b b' total : ℕ) (fresh : (j : ℕ) → j < total →
       let up' = (place-choices (env ++ (l.arrow ∷ [])) y (n + length l.nodes) l.choices).0 in
       let la = make_alike vars x s.0 n n' i i' j c en en' ei ei' (omega arith) (omega arith) in
       let same = both-length la.nodes in
-      let ra = place_alike (both_append vars (more la.arrow none)) y (subst (λ (v : ℕ). Scoped v y) (sym (length-behind env l.arrow)) s.1)
+      let ra = place_alike {env = env ++ (l.arrow ∷ [])} {env' = env' ++ (l'.arrow ∷ [])} (both_append vars (more la.arrow none)) y (subst (λ (v : ℕ). Scoped v y) (sym (length-behind env l.arrow)) s.1)
       (n + length l.nodes) (n' + length l'.nodes) l.choices l'.choices (j + length l.nodes) la.made (omega arith) (omega arith)
       la.choices la.choices' (omega arith) few in
       record {
