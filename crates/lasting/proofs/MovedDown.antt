@@ -44,6 +44,7 @@ kept_from to (false ∷ ms) (x ∷ h) m lt = let f = kept_from to ms h m lt in r
 in_map : (to : ℕ → ℕ) (xs : List ℕ) {y : ℕ} → In y (map to xs) → (x : ℕ) × In x xs × (y ≡ to x)
 in_map to (x ∷ xs) first = (x, first, refl)
 in_map to (x ∷ xs) (later i) = let (x', i', is) = in_map to xs i in (x', later i', is)
+in_map to [] {y = y} x' = elim x' [ ]
 
 -- an arrow of it was one before
 arrow-from : (to : ℕ → ℕ) (x : Node) {y : ℕ} → Arrow y (redirected to x) → (z : ℕ) × Arrow z x × (y ≡ to z)
@@ -52,6 +53,7 @@ arrow-from to (apply f xs) (argument i) = let (z, i', is) = in_map to xs i in (z
 arrow-from to (choice i l r) left_side = (l, left_side, refl)
 arrow-from to (choice i l r) right_side = (r, right_side, refl)
 arrow-from to (forward m) target = (m, target, refl)
+arrow-from to fail {y = y} x'' = elim x'' [ ]
 
 -- an arrow is one of the arrows
 arrow_in_lem : {y : ℕ} {x : Node} → Arrow y x → In y (arrows_of x)
