@@ -92,6 +92,11 @@ class Fn:
                     t = n2 + t[len(o2):]
             return var + t
         cf = canon(f)
+        # what a type says of a variable
+        if rest[:1] == ["given"]:
+            for vs in self.j.get("typed") or []:
+                for v, st in vs:
+                    if canon(st) == cf: return ".".join([var, "type_inv", v] + rest[1:])
         # arms by path
         for k in range(len(rest), -1, -1):
             key = (cf, tuple(rest[:k]))
@@ -111,17 +116,17 @@ class Fn:
         if rest and rest[0] in self.allren.get(cf, {}):
             rest = [self.allren[cf][rest[0]]] + rest[1:]
         if rest and rest[0] == "ok" and callee: rest = ["type_inv"] + rest[1:]
-        if rest and rest[0] == "new" and callee and callee in self.j["params"]:
+        if rest and rest[0] in ("new", "auto") and callee and callee in self.j["params"]:
             ps = self.j["params"][callee]
             k = 0
             while 1 + k < len(rest) and rest[1 + k] == "1": k += 1
             if 1 + k < len(rest) and rest[1 + k] == "0" and k < len(ps):
-                rest = ["new", ps[k]] + rest[2 + k:]
+                rest = [rest[0], ps[k]] + rest[2 + k:]
         return ".".join([f"{var}.{new}"] + rest)
 
     def virtual(self, fs):
         """whether a let of this path is only a beginning of a path"""
-        return "given" in fs[1:] or (len(fs) > 1 and fs[1] == "new")
+        return "given" in fs[1:] or (len(fs) > 1 and fs[1] in ("new", "auto"))
 
     def convert(self, body, place, helpers, goal):
         """body text with c at place"""
