@@ -1,6 +1,5 @@
 -- `clear` meets its contract.
 use mathlib.Core.Path.{◌∙◌}
-use Prim.Native.Nat.{◌-◌}
 use native.Mathlib.Omega.{arith}
 use lib.ListN.{length-set}
 use Rattle.terms.proofs.TwiceChains.{clear-more, clear-all}

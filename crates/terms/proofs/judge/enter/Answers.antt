@@ -23,8 +23,9 @@ in_table-requires c =
     let s = a.s.now in
     let to = c.line_end-to in
     let within = end-within s a.at (omega arith) in
-    asked s a.place.now a.before.now a.last.now a.count c.requires.0 a.at to.result c.hash_of-h.result to.ensures c.hash_of-h.ensures.0
-    (omega (arith, c.requires.1)) (omega (arith, to.ensures))
+    let sought = asked s a.place.now a.before.now a.last.now a.count c.requires.table a.at to.result c.hash_of-h.result to.ensures c.hash_of-h.ensures.0
+    (omega (arith, c.requires.bounds)) (omega (arith, to.ensures)) in
+    record { inside = sought.0; chained = sought.1.0; same_hash = sought.1.1.0; bounds = sought.1.1.1 }
 
 pub returns-then-in_table : goal.returns-then-in_table
 returns-then-in_table c =
@@ -33,7 +34,7 @@ returns-then-in_table c =
     let to = c.line_end-to in
     let h = c.hash_of-h in
     let found = c.in_table in
-    entered_given s a.place.now a.before.now a.last.now a.count c.requires.0 a.at to.result h.result to.ensures h.ensures.0
+    entered_given s a.place.now a.before.now a.last.now a.count c.requires.table a.at to.result h.result to.ensures h.ensures.0
     (sym c.kind_at-kind.ensures ∙ c.if-kind-ne1.false) found.result found.ensures c.if-in_table.true
 
 pub returns : goal.returns
@@ -43,5 +44,5 @@ returns c =
     let to = c.line_end-to in
     let h = c.hash_of-h in
     let found = c.in_table in
-    entered_new s a.place.now a.before.now a.last.now a.count c.requires.0 a.at to.result h.result to.ensures h.ensures.0
+    entered_new s a.place.now a.before.now a.last.now a.count c.requires.table a.at to.result h.result to.ensures h.ensures.0
     (sym c.kind_at-kind.ensures ∙ c.if-kind-ne1.false) found.result found.ensures c.if-in_table.false

@@ -1,5 +1,4 @@
 -- `fill` meets its contract: the table holds the headings of the lines passed, and none of these gives one again.
-use mathlib.Core.Bool.{true, false}
 use mathlib.Core.Path.{◌≡◌}
 use Prim.Native.Nat.{◌+◌, ◌-◌, ◌≤◌, ◌<◌}
 use native.Mathlib.Omega.{arith}
@@ -13,15 +12,15 @@ use Rattle.terms.proofs.TwiceBlocks.{block_start, begins-on, over-past, over-cut
 use Rattle.terms.proofs.judge.fill.Goals as goal
 
 pub clear-requires : goal.clear-requires
-clear-requires c = c.requires.1.2
+clear-requires c = c.requires.rows.2
 
 pub loop-p-init : goal.loop-p-init
 loop-p-init c =
     let a = c.args in
     let s = a.s.now in
-    let rows = c.requires.1 in
+    let rows = c.requires.rows in
     let table = table_none s a.place.now a.before.now c.clear.new.last rows.0 rows.1 c.clear.ensures in
-    (c.requires.0, block_start s (a.line - 1) a.place.now a.before.now c.clear.new.last table, omega arith, omega arith, omega arith)
+    (c.requires.begins, block_start s (a.line - 1) a.place.now a.before.now c.clear.new.last table, omega arith, omega arith, omega arith)
 
 pub returns-then-s-to : goal.returns-then-s-to
 returns-then-s-to c =
@@ -51,7 +50,7 @@ returns-then-count-eq-TABLE c =
 pub enter-e-requires : goal.enter-e-requires
 enter-e-requires c =
     let loop = c.loop-p in
-    (loop.invariant.1.table, (omega arith, omega (arith, loop.invariant.4, c.if-count-eq-TABLE.false)))
+    record { table = loop.invariant.1.table; bounds = (omega arith, omega (arith, loop.invariant.4, c.if-count-eq-TABLE.false)) }
 
 pub returns-then-e-eq2 : goal.returns-then-e-eq2
 returns-then-e-eq2 c =

@@ -1,5 +1,5 @@
 -- `first_known` meets its contract.
-use Prim.Native.Nat.{◌+◌, ◌-◌, ◌≤◌, ◌<◌}
+use Prim.Native.Nat.{◌+◌, ◌≤◌, ◌<◌}
 use native.Mathlib.Omega.{arith}
 use borrow.Author.Rules.{rules}
 use lib.ListN.{length}
@@ -10,7 +10,7 @@ use Rattle.terms.proofs.judge.first_known.Goals as goal
 
 pub loop-p-init : goal.loop-p-init
 loop-p-init c =
-    (c.requires.0, omega arith, λ j low high. absurd (omega arith))
+    (c.requires.begins, omega arith, λ j low high. absurd (omega arith))
 
 pub returns-then-s-to : goal.returns-then-s-to
 returns-then-s-to c =
@@ -27,7 +27,7 @@ returns-then-until-n c =
 
 pub known_at-requires : goal.known_at-requires
 known_at-requires c =
-    (c.requires.1, omega arith)
+    record { table = c.requires.table; inside = omega arith }
 
 pub returns-then-known_at : goal.returns-then-known_at
 returns-then-known_at c =

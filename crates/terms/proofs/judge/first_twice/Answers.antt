@@ -1,5 +1,4 @@
 -- `first_twice` meets its contract: block by block the first line is kept that gives a heading of the blocks so far again.
-use mathlib.Core.Bool.{true, false}
 use Prim.Native.Nat.{ℕ, ◌-◌}
 use native.Mathlib.Omega.{arith}
 use borrow.Author.Tests.{not-true, not-false}
@@ -15,7 +14,7 @@ loop-at-init c =
 pub fill-f-requires : goal.fill-f-requires
 fill-f-requires c =
     let loop = c.loop-at in
-    (loop.invariant.0, loop.invariant.1)
+    record { begins = loop.invariant.0; rows = loop.invariant.1 }
 
 pub returns-then-twice-ne0 : goal.returns-then-twice-ne0
 returns-then-twice-ne0 c =
@@ -34,7 +33,7 @@ returns-then-not-f c =
 pub first_known-known-requires : goal.first_known-known-requires
 first_known-known-requires c =
     let full = c.fill-f.ensures.full (not-false c.fill-f.result.full c.if-not-f.false) in
-    (full.1, full.0.table)
+    record { begins = full.1; table = full.0.table }
 
 pub loop-at-smaller : goal.loop-at-smaller
 loop-at-smaller c =
@@ -48,8 +47,7 @@ loop-at-preserved c =
     let a = c.args in
     let until = c.until_of-until in
     let f = c.fill-f in
-    let full = f.ensures.full (not-false f.result.full c.if-not-f.false) in
-    let l = f.new.1.1.1.1 in
+    let full = f.ensures.full (not-false c.fill-f.result.full c.if-not-f.false) in
     let new = c.sooner-best in
     let known = c.first_known-known in (
       full.1,

@@ -1,6 +1,6 @@
 -- `first_unmirrored` meets its contract: the lines passed have their mirrors, and those still to come decide.
 use mathlib.Core.Path.{sym, ap, ◌∙◌}
-use Prim.Native.Nat.{ℕ, ◌+◌, ◌-◌, ◌≤◌}
+use Prim.Native.Nat.{ℕ, ◌+◌, ◌≤◌}
 use native.Mathlib.Omega.{arith}
 use borrow.Author.Rules.{rules}
 use lib.ListN.{length, replicate}
@@ -26,10 +26,10 @@ returns-then-s-to c =
     sym (loop.invariant.3 ∙ rw (line-cut-at s loop.at (omega arith) (omega arith)) (unmirrored_cut (lines_of s) (name_at s loop.h) loop.line))
 
 pub entry_at-e-requires : goal.entry_at-e-requires
-entry_at-e-requires c = ((omega arith, omega arith), c.loop-at.invariant.4)
+entry_at-e-requires c = record { places = (omega arith, omega arith); mirrored = c.loop-at.invariant.4 }
 
 pub lacks_mirror-requires : goal.lacks_mirror-requires
-lacks_mirror-requires c = ((omega arith, omega arith), c.entry_at-e.ensures.1)
+lacks_mirror-requires c = record { places = (omega arith, omega arith); mirrored = c.entry_at-e.ensures.mirrored }
 
 pub returns-then-lacks_mirror : goal.returns-then-lacks_mirror
 returns-then-lacks_mirror c =
@@ -52,7 +52,7 @@ pub overflow_add-k : goal.overflow_add-k
 overflow_add-k c =
     let loop = c.loop-at in
     let e = c.entry_at-e in
-    let fits : e.result + 1 ≤ length c.args.s.now + 1 = omega (arith, loop.invariant.2, e.ensures.0) in
+    let fits : e.result + 1 ≤ length c.args.s.now + 1 = omega (arith, loop.invariant.2, e.ensures.low) in
     search rules
 
 pub loop-at-smaller : goal.loop-at-smaller
@@ -74,9 +74,9 @@ loop-at-preserved c =
     let here = loop.invariant.3 ∙ ap (unmirrored_from (lines_of s) (name_at s loop.h) loop.line) (line-at s loop.at (omega arith)) in (
       next.0,
       omega (arith, loop.invariant.1),
-      omega (arith, loop.invariant.2, e.0),
+      omega (arith, loop.invariant.2, e.low),
       rw (to, next.1) (here ∙ unmirrored_later (lines_of s) (name_at s loop.h) loop.line (line_at s loop.at) _ is),
-      e.1,
+      e.mirrored,
     )
 
 pub returns : goal.returns

@@ -1,5 +1,4 @@
 -- `forms_of` meets its contract: the lines passed are good, and those still to come decide.
-use mathlib.Core.Bool.{true, false}
 use mathlib.Core.Path.{sym, ◌∙◌}
 use Prim.Native.Nat.{◌+◌, ◌-◌, ◌≤◌}
 use native.Mathlib.Omega.{arith}

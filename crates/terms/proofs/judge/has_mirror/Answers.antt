@@ -1,7 +1,5 @@
 -- `has_mirror` meets its contract: no line passed is the mirror, and those still to come decide.
-use mathlib.Core.Bool.{true, false}
 use mathlib.Core.Path.{refl, sym, ◌∙◌}
-use Prim.Native.Nat.{◌-◌}
 use native.Mathlib.Omega.{arith}
 use Rattle.terms.specs.Judging.{name_at, line_at}
 use Rattle.terms.proofs.LineWays.{end_after, line-at, line-cut-at, lines_past}

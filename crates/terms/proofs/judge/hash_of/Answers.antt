@@ -1,6 +1,6 @@
 -- `hash_of` meets its contract.
 use mathlib.Core.Path.{ap, sym, ◌∙◌}
-use Prim.Native.Nat.{◌-◌, ◌%◌}
+use Prim.Native.Nat.{◌%◌}
 use native.Mathlib.Omega.{arith}
 use Rattle.terms.specs.Blocks.{hash_of}
 use Rattle.terms.proofs.TwiceChains.{hash_more, hash_none}

@@ -1,5 +1,4 @@
 -- `in_table` meets its contract: no entry from the one looked at on has the name, so a walk down the chain misses none.
-use mathlib.Core.Bool.{true, false}
 use mathlib.Core.Path.{sym, ◌∙◌}
 use Prim.Native.Nat.{◌-◌, ◌≤◌, ◌<◌}
 use native.Mathlib.Omega.{arith}
@@ -11,7 +10,7 @@ use Rattle.terms.proofs.judge.in_table.Goals as goal
 
 pub loop-i-init : goal.loop-i-init
 loop-i-init c =
-    (omega arith, c.requires.1.1.0, λ k low high. absurd (omega arith))
+    (omega arith, c.requires.same_hash, λ k low high. absurd (omega arith))
 
 pub same-requires : goal.same-requires
 same-requires c =
@@ -19,9 +18,9 @@ same-requires c =
     let s = a.s.now in
     let i = c.loop-i.i in
     let end = c.line_end-end.ensures in
-    let inside = c.requires.0 (i - 1) (omega (arith, c.loop-i.invariant.0, c.loop-i-test.true)) in
+    let inside = c.requires.inside (i - 1) (omega (arith, c.loop-i.invariant.0, c.loop-i-test.true)) in
     let within = end-within s (get_or a.place.now (i - 1) 0) inside in
-    (omega (arith, c.requires.1.1.1), omega arith)
+    (c.requires.bounds.1, omega arith)
 
 pub returns-then-same : goal.returns-then-same
 returns-then-same c =
@@ -33,7 +32,7 @@ pub loop-i-smaller : goal.loop-i-smaller
 loop-i-smaller c =
     let a = c.args in
     let loop = c.loop-i in
-    omega (arith, c.requires.1.0.low (loop.i - 1) (omega (arith, loop.invariant.0, c.loop-i-test.true)), c.loop-i-test.true)
+    omega (arith, c.requires.chained.low (loop.i - 1) (omega (arith, loop.invariant.0, c.loop-i-test.true)), c.loop-i-test.true)
 
 pub loop-i-preserved : goal.loop-i-preserved
 loop-i-preserved c =
@@ -43,7 +42,7 @@ loop-i-preserved c =
     let end = c.line_end-end.ensures in
     let some : 0 < loop.i = omega (arith, c.loop-i-test.true) in
     let within : loop.i ≤ a.from = loop.invariant.0 in
-    let chain = c.requires.1.0 in
+    let chain = c.requires.chained in
     let name = bytes_of s a.at a.to in
     let differs = rw end at (sym c.same.ensures ∙ c.if-same.false) in (
       omega (arith, chain.low (loop.i - 1) (omega arith)),

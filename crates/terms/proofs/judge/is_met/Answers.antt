@@ -1,5 +1,5 @@
 -- `is_met` meets its contract.
-use Prim.Native.Nat.{◌-◌, ◌<◌}
+use Prim.Native.Nat.{◌<◌}
 use borrow.Author.Rules.{rules}
 use Rattle.terms.proofs.MeetWays.{never}
 use Rattle.terms.proofs.judge.is_met.Goals as goal

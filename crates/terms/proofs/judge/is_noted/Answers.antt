@@ -1,5 +1,4 @@
 -- `is_noted` meets its contract.
-use Prim.Native.Nat.{◌-◌}
 use native.Mathlib.Omega.{arith}
 use Rattle.terms.proofs.MeetWays.{never}
 use Rattle.terms.proofs.judge.is_noted.Goals as goal

@@ -1,6 +1,5 @@
 -- `judged` meets its contract: the three walks together are the definition's one.
 use mathlib.Core.Path.{refl, sym, ◌∙◌}
-use mathlib.Core.Bool.{true, false}
 use Prim.Native.Nat.{◌+◌, ◌≤◌}
 use native.Mathlib.Omega.{arith}
 use lib.ListN.{length}
@@ -26,7 +25,6 @@ overflow_add-result c =
     let s = c.args.s.now in
     let f = c.forms_of-f.ensures in
     let fits : c.forms_of-f.result.lines + 1 ≤ length s + 2 = omega (arith, f.good, good-most 0 (lines_of s), lines_few s) in
-    let room = c.well-formed.0 in
     omega arith
 
 pub returns-then-f : goal.returns-then-f

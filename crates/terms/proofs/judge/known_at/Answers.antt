@@ -24,8 +24,9 @@ in_table-requires c =
     let s = a.s.now in
     let to = c.line_end-to in
     let within = end-within s a.at (omega arith) in
-    asked s a.place.now a.before.now a.last.now table_size c.requires.0 a.at to.result c.hash_of-h.result to.ensures c.hash_of-h.ensures.0
-    (omega arith) (omega (arith, to.ensures))
+    let sought = asked s a.place.now a.before.now a.last.now table_size c.requires.table a.at to.result c.hash_of-h.result to.ensures c.hash_of-h.ensures.0
+    (omega arith) (omega (arith, to.ensures)) in
+    record { inside = sought.0; chained = sought.1.0; same_hash = sought.1.1.0; bounds = sought.1.1.1 }
 
 pub returns : goal.returns
 returns c =
@@ -33,5 +34,5 @@ returns c =
     let s = a.s.now in
     let to = c.line_end-to in
     let h = c.hash_of-h in
-    known_by s a.place.now a.before.now a.last.now c.requires.0 a.at to.result h.result to.ensures h.ensures.0
+    known_by s a.place.now a.before.now a.last.now c.requires.table a.at to.result h.result to.ensures h.ensures.0
     (sym c.kind_at-kind.ensures ∙ c.if-kind-ne1.false) c.in_table.result c.in_table.ensures

@@ -17,7 +17,7 @@ returns-then-is_met c =
     let a = c.args in
     let s = a.s.now in
     let m = c.is_met.ensures c.if-is_met.true in
-    wants-has (lines_of s) (name_at s a.h) (line_at s a.p) (rw (m.0, m.1) at (c.requires.1.1 a.k m.2))
+    wants-has (lines_of s) (name_at s a.h) (line_at s a.p) (rw (m.0, m.1) at (c.requires.mirrored.1 a.k m.2))
 
 pub returns-then-has_mirror : goal.returns-then-has_mirror
 returns-then-has_mirror c =

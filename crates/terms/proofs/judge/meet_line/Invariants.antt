@@ -1,5 +1,4 @@
 -- What the loops of `meet_line` keep.
-use Prim.Native.Nat.{◌-◌}
 use Rattle.terms.specs.Meeting.{Met}
 use Rattle.terms.proofs.judge.meet_line.Given as goal
 

@@ -1,5 +1,4 @@
 -- `meet_lines` meets its contract: each line stands in the listing, so what it meets has its mirror.
-use Prim.Native.Nat.{◌-◌}
 use native.Mathlib.Omega.{arith}
 use Rattle.terms.proofs.LineWays.{end_after}
 use Rattle.terms.proofs.MeetWays.{behind-start, under-here, behind-on}
@@ -16,7 +15,10 @@ meet_line-requires c =
     let loop = c.loop-at in
     let s = c.args.s.now in
     let to = c.line_end-to.ensures in
-    (under-here s loop.g loop.at loop.invariant.1 (omega arith) loop.invariant.0 (omega arith), loop.invariant.2)
+    record {
+      under = under-here s loop.g loop.at loop.invariant.1 (omega arith) loop.invariant.0 (omega arith);
+      mirrored = loop.invariant.2;
+    }
 
 pub next_heading-g-requires : goal.next_heading-g-requires
 next_heading-g-requires c = (omega arith, omega arith)

@@ -1,5 +1,4 @@
 -- `mix_of` meets its contract.
-use Prim.Native.Nat.{◌-◌}
 use native.Mathlib.Omega.{arith}
 use Rattle.terms.proofs.judge.mix_of.Goals as goal
 

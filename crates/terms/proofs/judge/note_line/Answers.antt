@@ -1,5 +1,4 @@
 -- `note_line` is safe: what is noted is only a hint.
-use Prim.Native.Nat.{◌-◌}
 use native.Mathlib.Omega.{arith}
 use Rattle.terms.proofs.JudgeWays.{end-within}
 use Rattle.terms.proofs.judge.note_line.Goals as goal

@@ -1,5 +1,4 @@
 -- `note_lines` is safe, and ends.
-use Prim.Native.Nat.{◌-◌}
 use native.Mathlib.Omega.{arith}
 use Rattle.terms.proofs.LineWays.{end_after}
 use Rattle.terms.proofs.judge.note_lines.Goals as goal

@@ -1,6 +1,5 @@
 -- `is_printed` meets its contract: the bytes from here on decide, since those before it are printed.
 use mathlib.Core.Path.{refl, sym, ◌∙◌}
-use Prim.Native.Nat.{◌-◌}
 use native.Mathlib.Omega.{arith}
 use Rattle.terms.proofs.NameWays.{printed-low, printed-high, printed-more, printed-none}
 use Rattle.terms.proofs.lines.is_printed.Goals as goal

@@ -1,6 +1,5 @@
 -- `line_end` meets its contract: the line ends where it ends from here on.
 use mathlib.Core.Path.{refl, sym, ◌∙◌}
-use Prim.Native.Nat.{◌-◌}
 use native.Mathlib.Omega.{arith}
 use Rattle.terms.proofs.LineWays.{end-here, end_later, end-past}
 use Rattle.terms.proofs.lines.line_end.Goals as goal

@@ -1,6 +1,5 @@
 -- `same` meets its contract: the bytes still to come decide, since those before them are the same.
 use mathlib.Core.Path.{refl, sym, ◌∙◌}
-use Prim.Native.Nat.{◌-◌}
 use native.Mathlib.Omega.{arith}
 use Rattle.terms.proofs.NameWays.{same_longer, same_shorter, same_differs, same_more, same_none}
 use Rattle.terms.proofs.lines.same.Goals as goal

@@ -11,4 +11,4 @@ overflow_add-result-3 c =
     search rules
 
 pub returns : goal.returns
-returns c = (added_sum c.args.sum c.grown.ensures, (refl, refl))
+returns c = record { added = added_sum c.args.sum c.grown.ensures; row_ends = refl; term_noted = refl }

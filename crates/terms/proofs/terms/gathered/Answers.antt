@@ -1,9 +1,8 @@
 -- `gathered` meets its contract: each line keeps what is held of the lines so far.
 use mathlib.Core.Path.{refl, sym, ◌∙◌}
-use Prim.Native.Nat.{◌-◌, ◌<◌}
+use Prim.Native.Nat.{◌<◌}
 use native.Mathlib.Omega.{arith}
 use borrow.Author.Rules.{rules}
-use borrow.Author.Tests.{not-true, not-false}
 use lib.ListN.{length}
 use Rattle.terms.proofs.LineWays.{end_after}
 use Rattle.terms.proofs.TermsExact.{zero-at}
@@ -12,12 +11,10 @@ use Rattle.terms.proofs.terms.gathered.Goals as goal
 
 pub note_headings-count-requires : goal.note_headings-count-requires
 note_headings-count-requires c =
-    let start = c in
-    (few-names c.args.s.now c.requires, (refl, refl))
+    record { few = few-names c.args.s.now c.requires; sized = (refl, refl) }
 
 pub loop-at-init : goal.loop-at-init
 loop-at-init c =
-    let start = c in
     let g = going-first c.args.s.now _ _ c.requires refl refl (zero-at 342) (zero-at 2736) in
     (g, record { headings = omega arith; own = omega arith; terms = omega arith; size = omega arith })
 
@@ -30,7 +27,10 @@ take_line-sum-requires c =
     let room = going-room s loop.at loop.sum loop.from loop.to loop.invariant.0 there loop.invariant.1 in
     let later = end_after s loop.at in
     let end = c.line_end-end.ensures in
-    ((omega (arith, later), omega (arith, ends), loop.invariant.1, rw end room), c.note_headings-count.ensures)
+    record {
+      room = (omega (arith, later), omega (arith, ends), loop.invariant.1, rw end room);
+      noted = c.note_headings-count.ensures;
+    }
 
 pub returns-then-not-is_within : goal.returns-then-not-is_within
 returns-then-not-is_within c =
@@ -42,7 +42,7 @@ returns-then-not-is_within c =
     let ends = line-ends s loop.at loop.sum loop.from loop.to g there in
     let took = c.take_line-sum in
     let next = going_on_lem s loop.at loop.sum loop.from loop.to g there loop.invariant.1 took.result _ _ (rw end at took.ensures) in
-    let over = sym c.is_within.ensures ∙ not-true _ c.if-not-is_within.true-raw in
+    let over = sym c.is_within.ensures ∙ c.if-not-is_within.true in
     rw c.refused.ensures (told_over s _ took.result _ _ next over)
 
 pub overflow_add-at : goal.overflow_add-at
@@ -76,7 +76,7 @@ loop-at-preserved c =
     let ends = line-ends s loop.at loop.sum loop.from loop.to g there in
     let took = c.take_line-sum in
     let next = going_on_lem s loop.at loop.sum loop.from loop.to g there loop.invariant.1 took.result _ _ (rw end at took.ensures) in
-    let within = sym c.is_within.ensures ∙ not-false _ c.if-not-is_within.false-raw in
+    let within = sym c.is_within.ensures ∙ c.if-not-is_within.false in
     (rw end next, going-within s _ took.result _ _ next within)
 
 pub returns : goal.returns

@@ -1,5 +1,4 @@
 -- `note_headings` meets its contract: the headings before the place are noted.
-use Prim.Native.Nat.{◌-◌}
 use native.Mathlib.Omega.{arith}
 use Rattle.terms.proofs.LineWays.{end_after}
 use Rattle.terms.proofs.TermsNoted.{noting_first, noted-past, noted-cut, noting_room, noting_on}
@@ -7,25 +6,22 @@ use Rattle.terms.proofs.terms.note_headings.Goals as goal
 
 pub loop-at-init : goal.loop-at-init
 loop-at-init c =
-    let start = c in
-    noting_first c.args.s.now c.args.opens.now c.args.ends.now c.requires.1.0 c.requires.1.1
+    noting_first c.args.s.now c.args.opens.now c.args.ends.now c.requires.sized.0 c.requires.sized.1
 
 pub returns-then-s-end : goal.returns-then-s-end
 returns-then-s-end c =
-    let start = c in
     let s = c.args.s.now in
     let loop = c.loop-at in
-    let few = c.requires.0 in
+    let few = c.requires.few in
     let end = c.line_end-end.ensures in
     let later = end_after s loop.at in
     noted-cut s loop.at loop.count loop.opens loop.ends loop.invariant few (omega arith) (omega arith)
 
 pub note_line-count-requires : goal.note_line-count-requires
 note_line-count-requires c =
-    let start = c in
     let s = c.args.s.now in
     let loop = c.loop-at in
-    let few = c.requires.0 in
+    let few = c.requires.few in
     let end = c.line_end-end.ensures in
     let later = end_after s loop.at in
     let room = noting_room s loop.at loop.count loop.opens loop.ends loop.invariant few (omega arith) in
@@ -33,20 +29,18 @@ note_line-count-requires c =
 
 pub loop-at-smaller : goal.loop-at-smaller
 loop-at-smaller c =
-    let start = c in
     let s = c.args.s.now in
     let loop = c.loop-at in
-    let few = c.requires.0 in
+    let few = c.requires.few in
     let end = c.line_end-end.ensures in
     let later = end_after s loop.at in
     omega arith
 
 pub loop-at-preserved : goal.loop-at-preserved
 loop-at-preserved c =
-    let start = c in
     let s = c.args.s.now in
     let loop = c.loop-at in
-    let few = c.requires.0 in
+    let few = c.requires.few in
     let end = c.line_end-end.ensures in
     let later = end_after s loop.at in
     let noted = rw end at c.note_line-count.ensures in
@@ -54,8 +48,7 @@ loop-at-preserved c =
 
 pub returns : goal.returns
 returns c =
-    let start = c in
     let s = c.args.s.now in
     let loop = c.loop-at in
-    let few = c.requires.0 in
+    let few = c.requires.few in
     noted-past s loop.at loop.count loop.opens loop.ends loop.invariant few (omega arith)

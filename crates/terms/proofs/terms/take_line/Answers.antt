@@ -10,29 +10,26 @@ use Rattle.terms.proofs.terms.take_line.Goals as goal
 
 pub open_row-requires : goal.open_row-requires
 open_row-requires c =
-    let start = c in
     let a = c.args in
     let found = c.form_of-f in
     let bs = bytes_of a.s.now a.at a.end in
     let names = headings_of (lines_of a.s.now) in
-    let room = room-heading found.result bs found.ensures names a.sum c.in-Heading.is c.requires.0.3 in
-    (c.requires.0.2, room)
+    let room = room-heading found.result bs found.ensures names a.sum c.in-Heading.is c.requires.room.3 in
+    (c.requires.room.2, room)
 
 pub add_term-requires : goal.add_term-requires
 add_term-requires c =
-    let start = c in
     let a = c.args in
     let s = a.s.now in
     let found = c.form_of-f in
     let bs = bytes_of s a.at a.end in
     let names = headings_of (lines_of s) in
-    let room = room-broader found.result bs found.ensures names a.sum c.in-Broader.is c.requires.0.3 in
+    let room = room-broader found.result bs found.ensures names a.sum c.in-Broader.is c.requires.room.3 in
     let name = ap (λ l. number_of l names) (behind_tag s a.at a.end) in
-    (c.requires.0.2, omega (arith, room, name, c.number_among.ensures))
+    (c.requires.room.2, omega (arith, room, name, c.number_among.ensures))
 
 pub returns-in-Heading : goal.returns-in-Heading
 returns-in-Heading c =
-    let start = c in
     let a = c.args in
     let found = c.form_of-f in
     let bs = bytes_of a.s.now a.at a.end in
@@ -41,16 +38,15 @@ returns-in-Heading c =
 
 pub returns-in-Broader : goal.returns-in-Broader
 returns-in-Broader c =
-    let start = c in
     let a = c.args in
     let s = a.s.now in
     let found = c.form_of-f in
     let bs = bytes_of s a.at a.end in
     let names = headings_of (lines_of s) in
-    let (sums, (opened, filled)) = c.add_term.ensures in
+    let added = c.add_term.ensures in
     let name = ap (λ l. number_of l names) (behind_tag s a.at a.end) in
     let term = ap (set a.to.now a.sum.terms) (c.number_among.ensures ∙ sym name) in
-    taken_broader found.result bs found.ensures names a.sum c.in-Broader.is sums opened (filled ∙ term)
+    taken_broader found.result bs found.ensures names a.sum c.in-Broader.is added.added added.row_ends (added.term_noted ∙ term)
 
 pub returns-in-Narrower : goal.returns-in-Narrower
 returns-in-Narrower c =
