@@ -29,7 +29,6 @@ put_trees-requires c =
 
 pub returns : goal.returns
 returns c =
-    let front = c in
     let a = c.args in
     let pre = c.requires in
     let long = book-long a.from.now a.to.now a.n in

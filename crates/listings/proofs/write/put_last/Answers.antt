@@ -13,7 +13,6 @@ put_choice-q-requires c = let a = c.args in
 pub put_term-requires : goal.put_term-requires
 unfolding two_bytes term_laid
 put_term-requires c =
-    let first = c in
     let a = c.args in
     (omega arith, omega (arith, c.put_choice-q.ensures.behind, last-second-long a.above a.n a.x c.if-above.true))
 
@@ -24,7 +23,6 @@ put_term-requires-else-above c = let a = c.args in
 
 pub returns-then-above : goal.returns-then-above
 returns-then-above c =
-    let first = c in
     let a = c.args in
     last-second-put a.above a.n a.x c.if-above.true c.put_choice-q.ensures c.put_term.ensures
 

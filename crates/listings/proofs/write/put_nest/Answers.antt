@@ -1,6 +1,6 @@
 -- `put_nest` meets its contract: the terms from i on are left to be put.
 use mathlib.Core.Path.{ap, ◌∙◌}
-use Prim.Native.Nat.{◌+◌, ◌-◌, ◌≤◌}
+use Prim.Native.Nat.{◌+◌, ◌≤◌}
 use native.Mathlib.Omega.{arith}
 use lib.ListN.{length, get_or}
 use Rattle.listings.specs.Putting.{next_laid, nest_laid}
@@ -14,14 +14,11 @@ loop-i-init c = (omega arith, omega arith, left-all)
 
 pub overflow_cast-to : goal.overflow_cast-to
 overflow_cast-to c =
-    let start = c in
     omega (arith, c.requires.0.few, c.requires.0.inside c.loop-i.i (omega arith))
 
 pub put_next-p-requires : goal.put_next-p-requires
 put_next-p-requires c =
-    let test = c in
     let l = c.loop-i in
-    let start = c in
     let a = c.args in
     let row = c.requires.0 in
     let filled : a.b ≤ length a.to.now = omega (arith, row.whole, row.filled) in
@@ -32,9 +29,7 @@ put_next-p-requires c =
 
 pub loop-i-preserved : goal.loop-i-preserved
 loop-i-preserved c =
-    let test = c in
     let l = c.loop-i in
-    let start = c in
     let a = c.args in
     let row = c.requires.0 in
     let filled : a.b ≤ length a.to.now = omega (arith, row.whole, row.filled) in
@@ -43,14 +38,11 @@ loop-i-preserved c =
 
 pub overflow_cast-to-2 : goal.overflow_cast-to-2
 overflow_cast-to-2 c =
-    let start = c in
     omega (arith, c.requires.0.few, c.requires.0.inside c.loop-i.i (omega arith))
 
 pub put_last-requires : goal.put_last-requires
 put_last-requires c =
-    let test = c in
     let l = c.loop-i in
-    let start = c in
     let a = c.args in
     let row = c.requires.0 in
     let filled : a.b ≤ length a.to.now = omega (arith, row.whole, row.filled) in
@@ -62,9 +54,7 @@ shape_of-room c = put_same c.put_last.ensures ∙ left-same c.loop-i.invariant.2
 
 pub returns : goal.returns
 returns c =
-    let test = c in
     let l = c.loop-i in
-    let start = c in
     let a = c.args in
     let row = c.requires.0 in
     let filled : a.b ≤ length a.to.now = omega (arith, row.whole, row.filled) in

@@ -14,14 +14,11 @@ put_choice-p-requires c =
 pub put_choice-requires : goal.put_choice-requires
 unfolding two_bytes term_laid
 put_choice-requires c =
-    let first = c in
     let a = c.args in
     (omega arith, omega (arith, c.put_choice-p.ensures.behind, next_both a.above a.n a.x c.if-above.true))
 
 pub returns-then-above : goal.returns-then-above
 returns-then-above c =
-    let test = c in
-    let first = c in
     let a = c.args in
     next-second-put a.above a.n a.x c.if-above.true c.put_choice-p.ensures c.put_choice.ensures
 

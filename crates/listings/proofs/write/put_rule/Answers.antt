@@ -15,18 +15,16 @@ size_of-requires c = omega (arith, c.requires.0.filled)
 pub put_two-p-requires : goal.put_two-p-requires
 unfolding two_bytes
 put_two-p-requires c =
-    let start = c in
     let a = c.args in
     let row = c.requires.0 in
     let filled : a.b ≤ length a.to.now = omega (arith, row.whole, row.filled) in
     let small = size_small a.above (a.b - a.a) (omega (arith, row.filled)) in
     let room = rule-room a.above a.n a.to.now a.a a.b filled row.rising in
-    (omega (arith, c.type_size.ensures), omega (arith, c.requires.1))
+    (omega (arith, c.size_of.ensures), omega (arith, c.requires.1))
 
 pub put-q-requires : goal.put-q-requires
 unfolding two_bytes
 put-q-requires c =
-    let start = c in
     let a = c.args in
     let row = c.requires.0 in
     let filled : a.b ≤ length a.to.now = omega (arith, row.whole, row.filled) in
@@ -36,9 +34,6 @@ put-q-requires c =
 pub put-requires : goal.put-requires
 unfolding two_bytes
 put-requires c =
-    let code = c in
-    let long = c in
-    let start = c in
     let a = c.args in
     let row = c.requires.0 in
     let filled : a.b ≤ length a.to.now = omega (arith, row.whole, row.filled) in
@@ -49,9 +44,6 @@ put-requires c =
 pub put_nest-requires : goal.put_nest-requires
 unfolding two_bytes
 put_nest-requires c =
-    let code = c in
-    let long = c in
-    let start = c in
     let a = c.args in
     let row = c.requires.0 in
     let filled : a.b ≤ length a.to.now = omega (arith, row.whole, row.filled) in
@@ -61,24 +53,18 @@ put_nest-requires c =
 
 pub returns-then-a-b : goal.returns-then-a-b
 returns-then-a-b c =
-    let code = c in
-    let long = c in
-    let start = c in
     let a = c.args in
     let row = c.requires.0 in
     let filled : a.b ≤ length a.to.now = omega (arith, row.whole, row.filled) in
-    let first = rw c.type_size.ensures at c.put_two-p.ensures in
+    let first = rw c.size_of.ensures at c.put_two-p.ensures in
     let fail = c.put.ensures in
     rule-put-fail a.above a.n a.to.now a.a a.b filled row.rising first c.put-q.ensures c.if-a-b.true fail
 
 pub returns-else-a-b : goal.returns-else-a-b
 returns-else-a-b c =
-    let code = c in
-    let long = c in
-    let start = c in
     let a = c.args in
     let row = c.requires.0 in
     let filled : a.b ≤ length a.to.now = omega (arith, row.whole, row.filled) in
-    let first = rw c.type_size.ensures at c.put_two-p.ensures in
+    let first = rw c.size_of.ensures at c.put_two-p.ensures in
     let nest = c.put_nest.ensures in
     rule-put_nest a.above a.n a.to.now a.a a.b filled row.rising first c.put-q.ensures nest

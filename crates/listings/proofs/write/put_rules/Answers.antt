@@ -23,7 +23,6 @@ overflow_cast-from-in-loop-x c =
 
 pub put_rule-p-requires : goal.put_rule-p-requires
 put_rule-p-requires c =
-    let start = c in
     let a = c.args in
     let l = c.loop-x in
     let less = c.loop-x-test.true in
@@ -34,7 +33,6 @@ put_rule-p-requires c =
 
 pub loop-x-preserved : goal.loop-x-preserved
 loop-x-preserved c =
-    let test = c in
     let l = c.loop-x in
     let a = c.args in
     let split = rules-more a.from.now a.to.now a.above a.n l.x c.loop-x-test.true in

@@ -4,5 +4,4 @@ use Rattle.listings.proofs.write.put_symbol.Goals as goal
 
 pub returns : goal.returns
 returns c =
-    let kind = c in
     put_then c.put-p.ensures (put_then c.put-p-2.ensures c.put.ensures)

@@ -18,7 +18,6 @@ put_symbol-p-requires c =
 
 pub loop-i-preserved : goal.loop-i-preserved
 loop-i-preserved c =
-    let test = c in
     let l = c.loop-i in
     let a = c.args in
     (omega arith, left-put (kinds-one a.many a.kind l.i c.loop-i-test.true) l.invariant.1 c.put_symbol-p.ensures)

@@ -15,5 +15,4 @@ put_two-requires c = search rules
 
 pub returns : goal.returns
 returns c =
-    let one = c in
     term-put c.args.f c.put-p.ensures c.put_two.ensures

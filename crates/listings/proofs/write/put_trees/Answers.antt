@@ -12,7 +12,6 @@ put_two-p-requires c = (omega arith, omega arith)
 pub put_rules-p-requires : goal.put_rules-p-requires
 unfolding two_bytes
 put_rules-p-requires c =
-    let start = c in
     let a = c.args in
     let pre = c.requires in
     let long = part-long a.n (broader_rows a.from.now a.to.now a.n 0) in
@@ -21,9 +20,6 @@ put_rules-p-requires c =
 pub put_rules-requires : goal.put_rules-requires
 unfolding two_bytes
 put_rules-requires c =
-    let first = c in
-    let size = c in
-    let start = c in
     let a = c.args in
     let pre = c.requires in
     let long = part-long a.n (broader_rows a.from.now a.to.now a.n 0) in
@@ -31,8 +27,6 @@ put_rules-requires c =
 
 pub returns : goal.returns
 returns c =
-    let first = c in
-    let size = c in
     let a = c.args in
     let broader = broader_rows a.from.now a.to.now a.n 0 in
     part-put a.n broader c.put_two-p.ensures c.put_rules-p.ensures c.put_rules.ensures

@@ -14,5 +14,4 @@ put-requires c = search rules
 
 pub returns : goal.returns
 returns c =
-    let one = c in
     two-put c.args.n c.put-p.ensures c.put.ensures

@@ -8,7 +8,6 @@ use Rattle.listings.proofs.write.write_listing.Goals as goal
 
 pub returns-then-number-ne0 : goal.returns-then-number-ne0
 returns-then-number-ne0 c =
-    let told = c in
     let t = c.terms_of-t.result in
     let s = c.args.s.now in
     let room = c.args.room.now in
@@ -16,7 +15,6 @@ returns-then-number-ne0 c =
 
 pub returns-then-room-size : goal.returns-then-room-size
 returns-then-room-size c =
-    let told = c in
     let t = c.terms_of-t.result in
     let s = c.args.s.now in
     let room = c.args.room.now in
@@ -25,8 +23,6 @@ returns-then-room-size c =
 pub put_book-requires : goal.put_book-requires
 put_book-requires c =
     let whole : length c.terms_of-t.result.to ≡ most_terms = search rules in
-    let lent = c in
-    let told = c in
     let t = c.terms_of-t.result in
     let s = c.args.s.now in
     let room = c.args.room.now in
@@ -35,8 +31,6 @@ put_book-requires c =
 
 pub returns : goal.returns
 returns c =
-    let lent = c in
-    let told = c in
     let t = c.terms_of-t.result in
     let s = c.args.s.now in
     let room = c.args.room.now in

@@ -57,7 +57,6 @@ returns-then-e-eq2 c =
     let loop = c.loop-p in
     let a = c.args in
     let s = a.s.now in
-    let l = c in
     let to = c.line_end-to.ensures in
     let entered = rw c.if-e-eq2.true at c.enter-e.ensures in
     told-twice s a.at a.line a.until loop.p loop.n c.enter-e.new.place c.enter-e.new.before c.enter-e.new.last
@@ -90,7 +89,6 @@ loop-p-preserved c =
     let loop = c.loop-p in
     let a = c.args in
     let s = a.s.now in
-    let l = c in
     let to = c.line_end-to.ensures in
     let later = end_after s loop.p in
     let inside : end_of s loop.p < length s = omega (arith, c.if-s-to.false) in

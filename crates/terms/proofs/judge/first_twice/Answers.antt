@@ -37,7 +37,6 @@ first_known-known-requires c =
 
 pub loop-at-smaller : goal.loop-at-smaller
 loop-at-smaller c =
-    let loop = c.loop-at in
     let full = c.fill-f.ensures.full (not-false c.fill-f.result.full c.if-not-f.false) in
     omega (arith, full.2, c.loop-at-test.true)
 

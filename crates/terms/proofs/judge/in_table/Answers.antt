@@ -30,7 +30,6 @@ returns-then-same c =
 
 pub loop-i-smaller : goal.loop-i-smaller
 loop-i-smaller c =
-    let a = c.args in
     let loop = c.loop-i in
     omega (arith, c.requires.chained.low (loop.i - 1) (omega (arith, loop.invariant.0, c.loop-i-test.true)), c.loop-i-test.true)
 

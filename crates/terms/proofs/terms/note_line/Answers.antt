@@ -6,7 +6,6 @@ use Rattle.terms.proofs.terms.note_line.Goals as goal
 
 pub offset_bounds-opens-count : goal.offset_bounds-opens-count
 offset_bounds-opens-count c =
-    let start = c in
     let a = c.args in
     let found = c.form_of-f in
     let room = note_room found.result (bytes_of a.s.now a.at a.end) found.ensures a.count c.in-Heading.is c.requires.2 in
@@ -14,7 +13,6 @@ offset_bounds-opens-count c =
 
 pub bounds-opens-count : goal.bounds-opens-count
 bounds-opens-count c =
-    let start = c in
     let a = c.args in
     let found = c.form_of-f in
     let room = note_room found.result (bytes_of a.s.now a.at a.end) found.ensures a.count c.in-Heading.is c.requires.2 in
@@ -22,7 +20,6 @@ bounds-opens-count c =
 
 pub offset_bounds-ends-count : goal.offset_bounds-ends-count
 offset_bounds-ends-count c =
-    let start = c in
     let a = c.args in
     let found = c.form_of-f in
     let room = note_room found.result (bytes_of a.s.now a.at a.end) found.ensures a.count c.in-Heading.is c.requires.2 in
@@ -30,7 +27,6 @@ offset_bounds-ends-count c =
 
 pub bounds-ends-count : goal.bounds-ends-count
 bounds-ends-count c =
-    let start = c in
     let a = c.args in
     let found = c.form_of-f in
     let room = note_room found.result (bytes_of a.s.now a.at a.end) found.ensures a.count c.in-Heading.is c.requires.2 in
@@ -38,7 +34,6 @@ bounds-ends-count c =
 
 pub overflow_add-result : goal.overflow_add-result
 overflow_add-result c =
-    let start = c in
     let a = c.args in
     let found = c.form_of-f in
     let room = note_room found.result (bytes_of a.s.now a.at a.end) found.ensures a.count c.in-Heading.is c.requires.2 in

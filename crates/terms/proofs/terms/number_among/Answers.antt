@@ -35,13 +35,11 @@ bounds-ends-x c =
 
 pub same-requires : goal.same-requires
 same-requires c =
-    let start = c in
     let loop = c.loop-x in
     (c.requires.0, c.requires.1.noted.inside loop.x (omega arith))
 
 pub returns-then-same : goal.returns-then-same
 returns-then-same c =
-    let start = c in
     let a = c.args in
     let loop = c.loop-x in
     let s = a.s.now in
@@ -58,7 +56,6 @@ loop-x-smaller c = omega arith
 
 pub loop-x-preserved : goal.loop-x-preserved
 loop-x-preserved c =
-    let start = c in
     let a = c.args in
     let loop = c.loop-x in
     let s = a.s.now in
@@ -72,7 +69,6 @@ loop-x-preserved c =
 
 pub returns : goal.returns
 returns c =
-    let start = c in
     let a = c.args in
     let loop = c.loop-x in
     let s = a.s.now in
