@@ -1,0 +1,61 @@
+-- `shortest_circle` meets its contract: what is known of the headings passed.
+use mathlib.Core.Path.{◌≡◌}
+use mathlib.Core.Logic.{⊎_elim}
+use Prim.Native.Nat.{◌+◌, ◌-◌}
+use native.Mathlib.Omega.{arith}
+use lib.ListN.{length}
+use Rattle.circles.specs.Saving.{held}
+use Rattle.circles.proofs.SavingRows.{held-length}
+use Rattle.circles.proofs.MarkWays.{sought_none, sought_same, sought_shorter, sought_found, sought_missing}
+use Rattle.circles.proofs.circle.shortest_circle.Goals as goal
+
+pub overflow_add-hops : goal.overflow_add-hops
+overflow_add-hops c = omega (arith, c.requires.terms.few)
+
+pub loop-x-init : goal.loop-x-init
+loop-x-init c =
+    let a = c.args in
+    let long = held-length a.from.now a.to.now a.n 0 in
+    (omega arith, sought_none (held a.from.now a.to.now a.n) (a.n + 1) (omega arith))
+
+pub back_in-k-requires : goal.back_in-k-requires
+back_in-k-requires c =
+    let a = c.args in
+    let long = held-length a.from.now a.to.now a.n 0 in
+    let s = c.loop-x.invariant.1 in
+    (c.requires, c.loop-x-test.true, s.any, omega (arith, s.within, c.requires.terms.few))
+
+pub loop-x-preserved : goal.loop-x-preserved
+loop-x-preserved c =
+    let a = c.args in
+    let loop = c.loop-x in
+    let broader = held a.from.now a.to.now a.n in
+    let long = held-length a.from.now a.to.now a.n 0 in
+    let back = c.back_in-k in (
+      omega arith,
+      ⊎_elim
+          (λ w.
+          let h : c.if-k-hops.hops ≡ back.result = w.1 in
+          let f : c.if-k-hops.first ≡ loop.x = w.2 in
+          rw (h, f) (sought_shorter broader loop.x loop.hops loop.first back.result loop.invariant.1 back.ensures w.0.taken (omega arith)))
+          (λ w.
+          let h : c.if-k-hops.hops ≡ loop.hops = w.1 in
+          let f : c.if-k-hops.first ≡ loop.first = w.2 in
+          rw (h, f) (sought_same broader loop.x loop.hops loop.first back.result loop.invariant.1 back.ensures w.0.left))
+          c.if-k-hops.branch,
+    )
+
+pub returns : goal.returns
+returns c =
+    let a = c.args in
+    let loop = c.loop-x in
+    let broader = held a.from.now a.to.now a.n in
+    let long = held-length a.from.now a.to.now a.n 0 in
+    let all : loop.x ≡ length broader = omega (arith, loop.invariant.0) in
+    let s = rw all at loop.invariant.1 in
+    record {
+      any = s.any;
+      first = s.there;
+      found = sought_found broader loop.hops loop.first s;
+      missing = sought_missing broader loop.hops loop.first s;
+    }
