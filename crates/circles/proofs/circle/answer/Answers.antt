@@ -1,5 +1,6 @@
 -- `answer` meets its contract: levels where they settle, else the circle that there is.
 use native.Mathlib.Omega.{arith}
+use borrow.Author.Rules.{rules}
 use Rattle.circles.specs.Saving.{held}
 use Rattle.circles.proofs.SavingRows.{held-length}
 use Rattle.circles.proofs.SavingWays.{answered-levels, answered-circle}
@@ -7,11 +8,10 @@ use Rattle.circles.proofs.circle.answer.Goals as goal
 
 pub levels_of-l-requires : goal.levels_of-l-requires
 levels_of-l-requires c =
-    let start = c in
-    record { terms = c.requires.0; places = c.well-formed.1.0.1.0.1 }
+    record { terms = c.requires.0; places = search rules }
 
 pub put_levels-requires : goal.put_levels-requires
-put_levels-requires c = let start = c in (c.requires.0.few, c.requires.1)
+put_levels-requires c = (c.requires.0.few, c.requires.1)
 
 pub returns-then-l : goal.returns-then-l
 returns-then-l c =
@@ -24,8 +24,7 @@ returns-then-l c =
 
 pub shortest_circle-s-requires : goal.shortest_circle-s-requires
 shortest_circle-s-requires c =
-    let start = c in
-    record { terms = c.requires.0; places = c.well-formed.1.0.1.0.1 }
+    record { terms = c.requires.0; places = search rules }
 
 pub returns-then-n-hops : goal.returns-then-n-hops
 returns-then-n-hops c =
@@ -36,11 +35,10 @@ returns-then-n-hops c =
 
 pub put_way-requires : goal.put_way-requires
 put_way-requires c =
-    let start = c in
     let a = c.args in
     let long = held-length a.from a.to a.n 0 in
     let first = c.shortest_circle-s.ensures.first (omega arith) in
-    (record { terms = c.requires.0; places = c.well-formed.1.0.1.0.1 }, omega arith, omega (arith, c.requires.1))
+    (record { terms = c.requires.0; places = search rules }, omega arith, omega (arith, c.requires.1))
 
 pub returns : goal.returns
 returns c =

@@ -1,5 +1,5 @@
 -- `back_in` meets its contract: x was not reached from itself in fewer hops by headings no lower.
-use Prim.Native.Nat.{◌-◌, ◌<◌}
+use Prim.Native.Nat.{◌<◌}
 use native.Mathlib.Omega.{arith}
 use lib.ListN.{length}
 use Rattle.circles.specs.Saving.{held}

@@ -1,6 +1,5 @@
 -- `below_in` meets its contract: the marks are those of i hops.
 use mathlib.Core.Path.{◌≡◌}
-use Prim.Native.Nat.{◌-◌}
 use native.Mathlib.Omega.{arith}
 use native.Mathlib.Numerals.{add-one}
 use Rattle.circles.specs.Saving.{held}

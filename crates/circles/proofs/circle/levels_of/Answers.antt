@@ -1,6 +1,6 @@
 -- `levels_of` meets its contract: the row has the chains of k rounds.
 use mathlib.Core.Path.{◌≡◌}
-use Prim.Native.Nat.{ℕ, ◌-◌}
+use Prim.Native.Nat.{ℕ}
 use native.Mathlib.Omega.{arith}
 use Rattle.circles.specs.Saving.{held}
 use Rattle.circles.proofs.SavingRows.{held-length}
@@ -12,7 +12,6 @@ loop-k-init c = (omega arith, rounded_none (held c.args.from.now c.args.to.now c
 
 pub one_round-next-requires : goal.one_round-next-requires
 one_round-next-requires c =
-    let start = c in
     let a = c.args in
     let loop = c.loop-k in
     (c.requires, rounded_low (held a.from.now a.to.now a.n) loop.k loop.row loop.invariant.1 (omega (arith, c.requires.terms.few)))

@@ -1,5 +1,5 @@
 use mathlib.Core.Path.{ap, ◌∙◌}
-use Prim.Native.Nat.{ℕ, ◌-◌, ◌≤◌}
+use Prim.Native.Nat.{ℕ, ◌≤◌}
 use native.Mathlib.Omega.{arith}
 use lib.ListN.{length, get_or}
 use Rattle.tagged.specs.Levels.{longest}
@@ -18,14 +18,12 @@ loop-i-init c =
 -- src/circle.rt:56:13
 pub term-b-requires : goal.term-b-requires
 term-b-requires c =
-    let start = c in
     let a = c.args in
     omega (arith, end_low a.from.now a.to.now a.n c.requires.0 a.x c.requires.1, c.place-until.ensures)
 
 -- src/circle.rt:57:29
 pub offset_bounds-row-b : goal.offset_bounds-row-b
 offset_bounds-row-b c =
-    let start = c in
     let a = c.args in
     let until = c.place-until.ensures in
     let low = term-low a.from.now a.to.now a.n c.requires.0 a.x c.loop-i.i c.requires.1 (omega arith) in
@@ -34,7 +32,6 @@ offset_bounds-row-b c =
 -- src/circle.rt:57:29
 pub bounds-row-b : goal.bounds-row-b
 bounds-row-b c =
-    let start = c in
     let a = c.args in
     let until = c.place-until.ensures in
     let low = term-low a.from.now a.to.now a.n c.requires.0 a.x c.loop-i.i c.requires.1 (omega arith) in
@@ -43,13 +40,11 @@ bounds-row-b c =
 -- src/circle.rt:57:29
 pub overflow_add-row : goal.overflow_add-row
 overflow_add-row c =
-    let start = c in
     omega (arith, c.requires.2 c.term-b.result)
 
 -- src/circle.rt:55:5
 pub loop-i-preserved : goal.loop-i-preserved
 loop-i-preserved c =
-    let start = c in
     let a = c.args in
     let loop = c.loop-i in
     let until = c.place-until in
@@ -62,7 +57,6 @@ loop-i-preserved c =
 -- src/circle.rt:48:1
 pub returns : goal.returns
 returns c =
-    let start = c in
     let a = c.args in
     let none = longest-none a.row.now a.to.now c.loop-i.i c.place-until.result (omega arith) in
     omega (arith, c.loop-i.invariant)

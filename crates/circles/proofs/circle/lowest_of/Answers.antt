@@ -1,7 +1,7 @@
 -- `lowest_of` meets its contract: the lowest so far, and the lowest of the terms still to come.
 use mathlib.Core.Path.{◌≡◌, sym, ap, ◌∙◌}
 use mathlib.Core.Bool.{false}
-use Prim.Native.Nat.{◌+◌, ◌-◌, ◌≤◌, min}
+use Prim.Native.Nat.{◌+◌, ◌≤◌, min}
 use native.Mathlib.Omega.{arith}
 use lib.ListN.{length, get_or}
 use Rattle.tagged.specs.Hops.{broader_of}
@@ -30,13 +30,11 @@ loop-i-init c =
 
 pub term-b-requires : goal.term-b-requires
 term-b-requires c =
-    let start = c in
     let a = c.args in
     omega (arith, end_low a.from.now a.to.now a.n c.requires a.here (omega arith), c.place-until.ensures)
 
 pub bounds-marks-b : goal.bounds-marks-b
 bounds-marks-b c =
-    let start = c in
     let a = c.args in
     let until = c.place-until.ensures in
     let low = term-low a.from.now a.to.now a.n c.requires a.here c.loop-i.i (omega arith) (omega arith) in
@@ -44,7 +42,6 @@ bounds-marks-b c =
 
 pub loop-i-preserved : goal.loop-i-preserved
 loop-i-preserved c =
-    let start = c in
     let a = c.args in
     let loop = c.loop-i in
     let until = c.place-until in

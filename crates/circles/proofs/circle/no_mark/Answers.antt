@@ -1,7 +1,6 @@
 -- `no_mark` meets its contract: none is marked so far.
-use mathlib.Core.Bool.{false}
 use mathlib.Core.Path.{◌≡◌}
-use Prim.Native.Nat.{ℕ, ◌-◌}
+use Prim.Native.Nat.{ℕ}
 use native.Mathlib.Omega.{arith}
 use borrow.Author.Count.{below_more}
 use Rattle.circles.proofs.circle.no_mark.Goals as goal

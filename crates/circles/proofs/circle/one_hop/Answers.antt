@@ -1,9 +1,8 @@
 -- `one_hop` meets its contract: the marks are filled heading by heading, from `low` on.
 use mathlib.Core.Bool.{false}
-use Prim.Native.Nat.{◌-◌, ◌<◌}
+use Prim.Native.Nat.{◌<◌}
 use native.Mathlib.Omega.{arith}
 use Rattle.tagged.specs.Hops.{broader_of}
-use Rattle.tagged.specs.Circle.{some_marked}
 use Rattle.circles.specs.Saving.{held}
 use Rattle.circles.proofs.SavingRows.{fill_from, fill_more, fill_all, broader-past}
 use Rattle.circles.proofs.MarkWays.{hop-low, hop-high, hop-past}

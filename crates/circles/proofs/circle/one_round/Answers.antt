@@ -1,5 +1,5 @@
 -- `one_round` meets its contract: the row is filled heading by heading.
-use Prim.Native.Nat.{◌-◌, ◌<◌}
+use Prim.Native.Nat.{◌<◌}
 use native.Mathlib.Omega.{arith}
 use Rattle.tagged.specs.Hops.{broader_of}
 use Rattle.circles.specs.Saving.{held}

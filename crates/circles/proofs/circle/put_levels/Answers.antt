@@ -1,6 +1,5 @@
 -- `put_levels` meets its contract: the front of the row has the first levels.
 use mathlib.Core.Path.{refl}
-use Prim.Native.Nat.{◌-◌}
 use native.Mathlib.Omega.{arith}
 use lib.ListN.{length-set}
 use Rattle.circles.proofs.SavingRows.{front-none, level_more, level_all}
@@ -23,7 +22,6 @@ bounds-row-x c = omega (arith, c.requires.1, c.loop-x.invariant.1)
 
 pub loop-x-preserved : goal.loop-x-preserved
 loop-x-preserved c =
-    let start = c in
     let loop = c.loop-x in (
       omega arith,
       simp length-set loop.invariant.1,
@@ -37,7 +35,6 @@ shape_of-row c = omega (arith, c.loop-x.invariant.1)
 
 pub returns : goal.returns
 returns c =
-    let start = c in
     let loop = c.loop-x in
     λ levels same long. level_all levels c.args.row.now loop.row loop.x (omega arith) (omega (arith, c.requires.1, loop.invariant.1))
     (loop.invariant.2 levels same long)

@@ -18,9 +18,6 @@ loop-i-init c =
 pub overflow_cast-row : goal.overflow_cast-row
 overflow_cast-row c = omega (arith, c.loop-i.invariant.1, c.requires.0.terms.few)
 
-pub offset_bounds-row-i : goal.offset_bounds-row-i
-offset_bounds-row-i c = omega (arith, c.requires.2, c.well-formed.1.1.1.1.1.0.1)
-
 pub bounds-row-i : goal.bounds-row-i
 bounds-row-i c = omega (arith, c.requires.2, c.loop-i.invariant.2)
 

@@ -1,6 +1,6 @@
 -- `same_row` meets its contract: the rows agree so far.
 use mathlib.Core.Path.{◌≡◌}
-use Prim.Native.Nat.{ℕ, ◌-◌}
+use Prim.Native.Nat.{ℕ}
 use native.Mathlib.Omega.{arith}
 use borrow.Author.Count.{below_more}
 use Rattle.circles.proofs.circle.same_row.Goals as goal

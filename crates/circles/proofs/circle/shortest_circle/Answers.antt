@@ -1,13 +1,13 @@
 -- `shortest_circle` meets its contract: what is known of the headings passed.
 use mathlib.Core.Path.{◌≡◌}
-use mathlib.Core.Logic.{⊎_elim}
-use Prim.Native.Nat.{◌+◌, ◌-◌}
+use Prim.Native.Nat.{◌+◌}
 use native.Mathlib.Omega.{arith}
 use lib.ListN.{length}
 use Rattle.circles.specs.Saving.{held}
 use Rattle.circles.proofs.SavingRows.{held-length}
 use Rattle.circles.proofs.MarkWays.{sought_none, sought_same, sought_shorter, sought_found, sought_missing}
 use Rattle.circles.proofs.circle.shortest_circle.Goals as goal
+use Rattle.circles.proofs.circle.shortest_circle.Goals.{then-k-hops, else-k-hops}
 
 pub overflow_add-hops : goal.overflow_add-hops
 overflow_add-hops c = omega (arith, c.requires.terms.few)
@@ -33,16 +33,12 @@ loop-x-preserved c =
     let long = held-length a.from.now a.to.now a.n 0 in
     let back = c.back_in-k in (
       omega arith,
-      ⊎_elim
-          (λ w.
-          let h : c.if-k-hops.hops ≡ back.result = w.1 in
-          let f : c.if-k-hops.first ≡ loop.x = w.2 in
-          rw (h, f) (sought_shorter broader loop.x loop.hops loop.first back.result loop.invariant.1 back.ensures w.0.taken (omega arith)))
-          (λ w.
-          let h : c.if-k-hops.hops ≡ loop.hops = w.1 in
-          let f : c.if-k-hops.first ≡ loop.first = w.2 in
-          rw (h, f) (sought_same broader loop.x loop.hops loop.first back.result loop.invariant.1 back.ensures w.0.left))
-          c.if-k-hops.branch,
+      elim c.if-k-hops.branch [
+        | then-k-hops w ↦
+            rw (w.hops-is, w.first-is) (sought_shorter broader loop.x loop.hops loop.first back.result loop.invariant.1 back.ensures w.if-k-hops.true (omega arith))
+        | else-k-hops w ↦
+            rw (w.hops-is, w.first-is) (sought_same broader loop.x loop.hops loop.first back.result loop.invariant.1 back.ensures w.if-k-hops.false)
+      ],
     )
 
 pub returns : goal.returns

@@ -1,7 +1,7 @@
 -- `some_marked` meets its contract: no term passed is marked.
 use mathlib.Core.Path.{◌≡◌, sym, ap, ◌∙◌}
 use mathlib.Core.Bool.{true, false}
-use Prim.Native.Nat.{◌-◌, ◌≤◌}
+use Prim.Native.Nat.{◌≤◌}
 use native.Mathlib.Omega.{arith}
 use lib.ListN.{length, get_or}
 use Rattle.tagged.specs.Circle.{some_marked}
@@ -18,13 +18,11 @@ loop-i-init c =
 
 pub term-b-requires : goal.term-b-requires
 term-b-requires c =
-    let start = c in
     let a = c.args in
     omega (arith, end_low a.from.now a.to.now a.n c.requires.0 a.x c.requires.1, c.place-until.ensures)
 
 pub bounds-marks-b : goal.bounds-marks-b
 bounds-marks-b c =
-    let start = c in
     let a = c.args in
     let until = c.place-until.ensures in
     let low = term-low a.from.now a.to.now a.n c.requires.0 a.x c.loop-i.i c.requires.1 (omega arith) in
@@ -32,7 +30,6 @@ bounds-marks-b c =
 
 pub returns-then-marks-b : goal.returns-then-marks-b
 returns-then-marks-b c =
-    let start = c in
     let a = c.args in
     let loop = c.loop-i in
     let until = c.place-until in
@@ -43,7 +40,6 @@ returns-then-marks-b c =
 
 pub loop-i-preserved : goal.loop-i-preserved
 loop-i-preserved c =
-    let start = c in
     let a = c.args in
     let loop = c.loop-i in
     let until = c.place-until in
