@@ -18,15 +18,6 @@ pub mod OneTurn
 pub mod TurnKeeps
 pub mod RowRings
 pub mod OnTheRow
-pub mod EntryRows
-pub mod LentAgain
-pub mod LentShared
-pub mod LentForCall
-pub mod HeldEntries
-pub mod LentArrays
-pub mod WalkSteps
-pub mod RowWalk
-pub mod RowPut
 pub mod Laying
 pub mod Gathering
 pub mod Preparing
