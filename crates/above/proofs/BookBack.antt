@@ -187,6 +187,7 @@ module _ (broader : Broader) (inside : Inside broader) where
   all-low (bs ∷ rest) k same first b there = inside (k + 0) b (rw (same 0) there)
   all-low (cs ∷ rest) k same (later i) b there =
       all-low rest (suc k) (λ x. let next : suc k + x ≡ k + suc x = omega arith in rw next (same (suc x))) i b there
+  all-low [] k same {bs = bs} x3 b there = elim x3 [ ]
 
   low : (bs : List ℕ) → In bs broader → Low bs
   low bs i = all-low broader 0 (λ x. let zero-plus : 0 + x ≡ x = omega arith in rw zero-plus refl) i

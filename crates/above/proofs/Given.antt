@@ -47,6 +47,8 @@ module _ (B : Book) where
   gives_nest {s} (e ∷ []) first g = (s, g)
   gives_nest {s} (e ∷ (f ∷ es)) first g = (suc s, Gives.left (le_refl _) g)
   gives_nest (e ∷ (f ∷ es)) (later i) g = let (t, more) = gives_nest (f ∷ es) i g in (suc t, Gives.right (le_refl _) more)
+  gives_nest {s = s} [] {e = e} {ρ = ρ} {p = p} x'' g = elim x'' [ ]
+  gives_nest {s = s} (e ∷ []) {ρ = ρ} {p = p} (later i) g = elim i [ ]
 
   -- ---- a term
 

@@ -25,8 +25,9 @@ of_first : (bs : List ℕ) {e : Expr} → In e (first_of bs) → (b : ℕ) × In
 unfolding first_of
 of_first (b ∷ bs) first = (b, first, refl)
 of_first (b ∷ bs) (later i) = let (c, there, is) = of_first bs i in (c, later there, is)
+of_first [] {e = e} x' = elim x' [ ]
 
-in_first : {bs : List ℕ} {b : ℕ} → In b bs → In (term_of b) (first_of bs)
+in_first : {b : ℕ} {bs : List ℕ} → In b bs → In (term_of b) (first_of bs)
 unfolding first_of
 in_first first = first
 in_first (later i) = later (in_first i)
@@ -51,12 +52,12 @@ of_second n e (b ∷ bs) i = by (in_row i) (λ j. of_second n e bs j)
     by (inl is) more = (b, first, inl is)
     by (inr j) more = next (in_row j) more
 
-in_second-term : (n : ℕ) {bs : List ℕ} {b : ℕ} → In b bs → In (term_of b) (second_of n bs)
+in_second-term : (n : ℕ) {b : ℕ} {bs : List ℕ} → In b bs → In (term_of b) (second_of n bs)
 unfolding second_of
 in_second-term n first = first
 in_second-term n (later i) = later (later (in_second-term n i))
 
-in_second-above : (n : ℕ) {bs : List ℕ} {b : ℕ} → In b bs → In (above_of n b) (second_of n bs)
+in_second-above : (n : ℕ) {b : ℕ} {bs : List ℕ} → In b bs → In (above_of n b) (second_of n bs)
 unfolding second_of
 in_second-above n first = later first
 in_second-above n (later i) = later (later (in_second-above n i))
