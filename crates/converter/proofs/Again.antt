@@ -8,7 +8,7 @@ use borrow.Author.Tests.{eq-eqb}
 use lib.Dec.{leb, ltb, eqb}
 use lib.ListN.{length, get_or, length-append}
 use Rattle.limits.specs.Sizes.{most_expression_nodes, most_variables, last_sort}
-use Rattle.reading.specs.Reading.{Reading, got, refusal, ◌then◌}
+use Rattle.reading.specs.Reading.{Reading, got, refusal}
 use Rattle.reading.specs.Bytes.{version_of, two_bytes, byte_at, number_at}
 use Rattle.reading.proofs.Good.{Good, good, refused, each, then-good, unless}
 use Rattle.reading.proofs.Keeping.{then-got, passed}

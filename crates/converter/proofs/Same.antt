@@ -9,7 +9,7 @@ use lib.Dec.{ltb, eqb}
 use lib.ListN.{length, get_or, length-append}
 use lib.Seq.{drop_at}
 use Rattle.limits.specs.Sizes.{most_book_bytes}
-use Rattle.reading.specs.Reading.{Reading, got, refusal, ◌then◌}
+use Rattle.reading.specs.Reading.{Reading, got, refusal}
 use Rattle.reading.specs.Bytes.{version_of, two_bytes}
 use Rattle.reading.proofs.Good.{Good, good, good-got, then-good, unless, whenever, byte_good, length-good}
 use Rattle.reading.proofs.Keeping.{then-got, then-refusal, failed-test}

@@ -8,7 +8,7 @@ use borrow.Author.Tests.{ltb-false}
 use lib.Dec.{ltb}
 use lib.ListN.{length, get_or, replicate, length-replicate}
 use Rattle.limits.specs.Sizes.{most_book_bytes, most_variables}
-use Rattle.reading.specs.Reading.{Reading, got, ◌then◌}
+use Rattle.reading.specs.Reading.{Reading, got}
 use Rattle.reading.specs.Bytes.{big_endian}
 use Rattle.reading.specs.Answer.{part_of}
 use Rattle.reading.proofs.Good.{Good, good, refused, good-got, both, then-good, whenever, unless, byte_good}

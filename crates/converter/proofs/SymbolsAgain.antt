@@ -8,7 +8,7 @@ use borrow.Author.Tests.{le-ltb, lt-leb, ne_eqb}
 use lib.Dec.{eqb}
 use lib.ListN.{length, get_or, length-append}
 use Rattle.limits.specs.Sizes.{most_book_bytes, most_symbols, most_arguments, last_sort}
-use Rattle.reading.specs.Reading.{got, ◌then◌}
+use Rattle.reading.specs.Reading.{got}
 use Rattle.reading.specs.Bytes.{two_bytes}
 use Rattle.reading.proofs.Keeping.{then-got, passed}
 use Rattle.symbols.specs.Symbols.{Symbol, Symbols, symbol_of}

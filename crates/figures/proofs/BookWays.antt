@@ -7,7 +7,7 @@ use native.Mathlib.Omega.{arith}
 use borrow.Author.Tests.{lt-ltb, le-ltb, ltb-false, eq-eqb, ne_eqb, eqb-false}
 use lib.Dec.{ltb, eqb}
 use lib.ListN.{length, get_or}
-use Rattle.reading.specs.Reading.{Reading, got, refusal, ◌then◌, refuse◌at◌if◌else◌}
+use Rattle.reading.specs.Reading.{Reading, got, refusal, refuse◌at◌if◌else◌}
 use Rattle.reading.specs.Bytes.{big_endian}
 use Rattle.reading.specs.Answer.{keeping}
 use Rattle.reading.specs.declared.Reading.{Reading as Answered}

@@ -2,14 +2,13 @@
 use mathlib.Core.Bool.{Bool, true, false}
 use mathlib.Core.List.{List, [], ◌∷◌}
 use mathlib.Core.Path.{◌≡◌, refl, sym, ap, ◌∙◌}
-use Prim.Native.Nat.{ℕ, zero, suc, ◌+◌, ◌-◌, ◌*◌, ◌≤◌, ◌<◌}
+use Prim.Native.Nat.{ℕ, zero, suc, ◌+◌, ◌-◌, ◌*◌, ◌≤◌}
 use native.Mathlib.Omega.{arith}
 use lib.Dec.{leb}
 use lib.ListN.{length, get_or, set, take, drop, length-drop}
 use lib.Seq.{get_or-drop, take_all}
 use Rattle.reading.specs.Reading.{Reading, got, refusal, refuse◌at◌if◌else◌}
 use Rattle.reading.specs.Bytes.{big_endian}
-use Rattle.reading.specs.Answer.{keeping, nothing}
 use Rattle.reading.specs.declared.Reading.TheVariants.{Got, Refusal}
 use Rattle.book.specs.TreeAt.{is_in}
 use Rattle.tallies.specs.Tallied.{most_total, symbols_at, tallied}

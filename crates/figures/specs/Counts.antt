@@ -4,7 +4,7 @@ use mathlib.Core.List.{List, [], ◌∷◌, ◌++◌, map, Mem, Perm}
 use Rattle.std.proofs.Math.Seq.{slice}
 use Rattle.limits.specs.Sizes.{most_choices}
 use Rattle.reading.specs.Reading.{got, refusal}
-use Rattle.reading.specs.Bytes.{big_endian, two_bytes}
+use Rattle.reading.specs.Bytes.{two_bytes}
 use Rattle.tallies.specs.Tallied.{most_total, how_many, symbols_at}
 use Rattle.machine.specs.Answers.{Answer, answer_bytes}
 use Rattle.figures.specs.AnswerBook.{whole_at}

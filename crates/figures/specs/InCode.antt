@@ -1,9 +1,6 @@
 -- What the code of the figures answers, and what it leaves of the totals, in the words of the definitions.
-use Rattle.std.specs.Prelude.{true, false, List, [], ◌∷◌, ◌++◌, ◌≡◌, ℕ, zero, suc, ◌+◌, ◌-◌, ◌*◌, ◌<◌, ltb, length, get_or, set}
-use Rattle.reading.specs.Reading.{Reading, got, refusal}
+use Rattle.std.specs.Prelude.{true, false, List, [], ◌++◌, ℕ, zero, suc, ◌+◌, ◌*◌, ltb, get_or}
 use Rattle.reading.specs.Bytes.{big_endian}
-use Rattle.reading.specs.Answer.{reading_of, keeping, nothing}
-use Rattle.reading.specs.declared.Reading.{Reading as Answered}
 use Rattle.figures.specs.AnswerBook.{Symbols}
 use Rattle.figures.specs.Figures.{book_end, Outcome}
 use Rattle.tallies.specs.InCode.{answer_over}

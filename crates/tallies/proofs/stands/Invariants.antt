@@ -1,6 +1,6 @@
 -- What the loops of `stands` keep.
 use mathlib.Core.Path.{◌≡◌}
-use Prim.Native.Nat.{◌-◌, ◌≤◌}
+use Prim.Native.Nat.{◌≤◌}
 use Rattle.book.specs.TreeAt.{is_in}
 use Rattle.tallies.specs.Tallied.{symbols_at}
 use Rattle.tallies.proofs.stands.Given as goal

@@ -23,12 +23,10 @@ module _ (c : After-made_of-made) where
 
 pub returns-then-number-ne0 : goal.returns-then-number-ne0
 returns-then-number-ne0 c =
-    let made = c in
     refusal-laid (rows (goal.at.returns-then-number-ne0 c).After-made_of-made) c.args.room.now c.made_of-made.result c.made_of-made.ensures.0 c.if-number-ne0.true
 
 pub returns-then-room-size : goal.returns-then-room-size
 returns-then-room-size c =
-    let made = c in
     no_room (rows (goal.at.returns-then-room-size c).After-made_of-made) c.args.room.now c.made_of-made.result c.made_of-made.ensures.0 c.if-number-ne0.false (within (goal.at.returns-then-room-size c).After-made_of-made) c.if-room-size.true
 
 pub slice_bounds-copy-end : goal.slice_bounds-copy-end
@@ -36,7 +34,6 @@ slice_bounds-copy-end c = within (goal.at.slice_bounds-copy-end c).After-made_of
 
 pub returns : goal.returns
 returns c =
-    let made = c in
     let copied = rw sub-zero at c.copy.ensures in
     book-laid (rows (goal.at.returns c).After-made_of-made) c.args.room.now c.made_of-made.result c.made_of-made.ensures.0
     c.if-number-ne0.false (within (goal.at.returns c).After-made_of-made) _ c.if-room-size.false copied

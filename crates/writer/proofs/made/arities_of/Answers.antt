@@ -1,6 +1,5 @@
 -- `arities_of` meets its contract: after f turns the first f arities stand in the array.
 use mathlib.Core.Path.{sym, ◌∙◌}
-use Prim.Native.Nat.{◌-◌}
 use native.Mathlib.Nat.{zero-add}
 use native.Mathlib.Omega.{arith}
 use lib.ListN.{replicate}

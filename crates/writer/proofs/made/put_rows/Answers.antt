@@ -1,7 +1,6 @@
 -- `put_rows` meets its contract: after i turns the first i numbers are put.
 use mathlib.Core.List.{map}
 use mathlib.Core.Path.{sym, ◌∙◌}
-use Prim.Native.Nat.{◌-◌}
 use native.Mathlib.Omega.{arith}
 use lib.ListN.{length-map, get_or-map}
 use Rattle.writer.specs.Layout.{byte_of}

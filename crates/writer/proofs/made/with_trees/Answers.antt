@@ -54,7 +54,6 @@ returns-then-trees-gt-BOOK c =
 
 pub returns-then-size-gt-BOOK : goal.returns-then-size-gt-BOOK
 returns-then-size-gt-BOOK c =
-    let put = c in
     too_large_lem c.args.count (whole (goal.at.returns-then-size-gt-BOOK c).After-put_trees-size) (omega (arith, size_is (goal.at.returns-then-size-gt-BOOK c).After-put_trees-size, c.if-size-gt-BOOK.true)) c.refused-then-size-gt-BOOK.ensures
 
 pub slice_bounds-read_book-end : goal.slice_bounds-read_book-end
@@ -65,7 +64,6 @@ slice_bounds-rows_read-end c = room (goal.at.slice_bounds-rows_read-end c).After
 
 pub returns-in-Refusal : goal.returns-in-Refusal
 returns-in-Refusal c =
-    let put = c in
     let small = c.if-size-gt-BOOK.false in
     let told = rw (sub-zero, there (goal.at.returns-in-Refusal c).After-put_trees-size small) at c.read_book-index.ensures.0 in
     let rows = rw (sub-zero, there (goal.at.returns-in-Refusal c).After-put_trees-size small) at c.rows_read.ensures.0 in
@@ -74,7 +72,6 @@ returns-in-Refusal c =
 
 pub returns-in-Got : goal.returns-in-Got
 returns-in-Got c =
-    let put = c in
     let small = c.if-size-gt-BOOK.false in
     let told = rw (sub-zero, there (goal.at.returns-in-Got c).After-put_trees-size small) at c.read_book-index.ensures.0 in
     let reading = ap reading_of (sym c.in-Got.is) ∙ told in

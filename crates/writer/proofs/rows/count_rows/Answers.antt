@@ -1,6 +1,5 @@
 -- `count_rows` meets its contract: the rows that were counted, with those from p on, are all.
 use mathlib.Core.Path.{ap}
-use Prim.Native.Nat.{◌-◌}
 use native.Mathlib.Omega.{arith}
 use lib.ListN.{length}
 use Rattle.writer.proofs.Splitting.{rows-one, rows_none}

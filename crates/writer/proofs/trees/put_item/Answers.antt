@@ -1,16 +1,15 @@
 -- `put_item` meets its contract: the bytes of the row are put first, then their length in front of them.
 use mathlib.Core.List.{◌++◌}
-use mathlib.Core.Logic.{⊎_elim}
 use mathlib.Core.Path.{◌≡◌}
 use Prim.Native.Nat.{◌<◌}
 use native.Mathlib.Omega.{arith}
-use lib.ListN.{length}
 use Rattle.reading.specs.Bytes.{two_bytes}
 use Rattle.writer.specs.Layout.{tree_row_bytes, item_bytes}
 use Rattle.writer.proofs.Putting.{front-put}
 use Rattle.writer.proofs.Splitting.{row}
 use Rattle.writer.proofs.Leftover.{item-missing, item-whole, item-length}
 use Rattle.writer.proofs.trees.put_item.Goals as goal
+use Rattle.writer.proofs.trees.put_item.Goals.{then-row-n, else-row-n}
 
 pub returns : goal.returns
 returns c =
@@ -24,9 +23,9 @@ returns c =
       omega (arith, put.1),
       λ fits.
           let is : (item_bytes arities its ≡ two_bytes said ++ tree_row_bytes arities a.row.now) × (said < 65536) =
-          ⊎_elim
-          (λ w. (item-missing arities its said w.0.taken w.1, omega arith))
-          (λ w. (item-whole arities its said w.0.left (omega (arith, put.0)), omega (arith, put.0)))
-          joined.branch in
+          elim joined.branch [
+            | then-row-n w ↦ (item-missing arities its said w.if-row-n.true w.length-is, omega arith)
+            | else-row-n w ↦ (item-whole arities its said w.if-row-n.false (omega (arith, put.0)), omega (arith, put.0))
+          ] in
           rw is.0 (front-put a.book.now a.p said (tree_row_bytes arities a.row.now) _ _ put.2 (c.put_two.ensures is.1)),
     )

@@ -14,9 +14,6 @@ use Rattle.writer.proofs.trees.put_items.Goals as goal
 pub loop-i-init : goal.loop-i-init
 loop-i-init c = (omega arith, omega arith, refl, λ fits. refl)
 
-pub overflow_cast-rows : goal.overflow_cast-rows
-overflow_cast-rows c = omega (arith, c.shared_slice_known-in-loop-i-1.given c.loop-i.i)
-
 pub loop-i-preserved : goal.loop-i-preserved
 loop-i-preserved c =
     let a = c.args in

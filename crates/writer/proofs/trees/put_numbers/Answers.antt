@@ -1,7 +1,7 @@
 -- `put_numbers` meets its contract: what was put, with what the numbers from i on will be, are the bytes of the row.
 use mathlib.Core.List.{◌++◌}
 use mathlib.Core.Path.{◌≡◌, refl, ap, ◌∙◌}
-use Prim.Native.Nat.{◌+◌, ◌-◌}
+use Prim.Native.Nat.{◌+◌}
 use native.Mathlib.Omega.{arith}
 use lib.ListN.{length, get_or, drop}
 use Rattle.writer.specs.Layout.{number_bytes, numbers_bytes, tree_row_bytes}

@@ -1,0 +1,38 @@
+-- `put_items` meets its contract: what was put, with what will be put for the old bytes from here on, are the bytes of all items.
+use mathlib.Core.List.{◌++◌}
+use mathlib.Core.Path.{◌≡◌, refl, ap, ◌∙◌}
+use Prim.Native.Nat.{◌+◌}
+use native.Mathlib.Omega.{arith}
+use lib.ListN.{length}
+use Rattle.writer.proofs.Putting.{left-length, left-put}
+use Rattle.converter.specs.Scan.{item_to, items}
+use Rattle.converter.proofs.ScanWays.{items-none, items_more}
+use Rattle.converter.proofs.made.put_items.Goals as goal
+
+pub loop-old-init : goal.loop-old-init
+loop-old-init c = (omega arith, omega arith, omega arith, refl, λ fits. refl)
+
+pub loop-old-preserved : goal.loop-old-preserved
+loop-old-preserved c =
+    let a = c.args in
+    let l = c.loop-old in
+    let book = a.book.now in
+    let ends = a.ends.now in
+    let e = l.old + 2 + c.number.result in
+    let put = c.put_item-new.ensures in
+    let now = item_to book ends e l.old in
+    let then = items book ends e in
+    let split : items book ends l.old ≡ now ++ then = items_more book ends l.old (omega arith) ∙ rw c.number.ensures.0 in (
+      omega arith,
+      omega arith,
+      omega (arith, put.near),
+      omega (arith, put.behind, left-length _ now then split),
+      λ fits. left-put _ now then split l.made l.new _ _ (put.put fits) put.behind ∙ l.invariant.4 (omega (arith, put.behind)),
+    )
+
+pub returns : goal.returns
+returns c =
+    let a = c.args in
+    let l = c.loop-old in
+    let none = items-none a.book.now a.ends.now l.old c.loop-old-test.false in
+    record { behind = omega (arith, ap length none); near = omega arith; put = λ fits. rw none at (l.invariant.4 fits) }

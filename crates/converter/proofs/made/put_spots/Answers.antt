@@ -1,0 +1,43 @@
+-- `put_spots` meets its contract: what was put, with what will be put for the old bytes from here on, are the bytes of all trees.
+use mathlib.Core.List.{◌++◌}
+use mathlib.Core.Path.{◌≡◌, refl, ap, ◌∙◌}
+use native.Mathlib.Omega.{arith}
+use lib.ListN.{length}
+use Rattle.writer.proofs.Putting.{left-length, left-put}
+use Rattle.converter.specs.Scan.{spot_bytes, spots}
+use Rattle.converter.proofs.ScanWays.{onward, spots-none, spots-more}
+use Rattle.converter.proofs.made.put_spots.Goals as goal
+
+pub loop-at-init : goal.loop-at-init
+loop-at-init c = (omega arith, omega arith, omega arith, refl, refl)
+
+pub loop-at-smaller : goal.loop-at-smaller
+loop-at-smaller c =
+    let a = c.args in
+    let l = c.loop-at in
+    omega (arith, c.put_spot-at.ensures.old, (onward a.book.now a.ends.now l.at.old).more)
+
+pub loop-at-preserved : goal.loop-at-preserved
+loop-at-preserved c =
+    let a = c.args in
+    let l = c.loop-at in
+    let book = a.book.now in
+    let ends = a.ends.now in
+    let far = onward book ends l.at.old in
+    let put = c.put_spot-at.ensures in
+    let now = spot_bytes book ends l.at.old in
+    let then = spots book ends a.e c.put_spot-at.result.old in
+    let split : spots book ends a.e l.at.old ≡ now ++ then = spots-more book ends a.e l.at.old (omega arith) ∙ rw put.old in (
+      omega (arith, put.old, far.more),
+      omega (arith, put.old, far.near),
+      omega (arith, put.old, put.new, far.few),
+      omega (arith, put.new, left-length _ now then split),
+      left-put _ now then split l.made l.at.new _ _ put.put put.new ∙ l.invariant.4,
+    )
+
+pub returns : goal.returns
+returns c =
+    let a = c.args in
+    let l = c.loop-at in
+    let none = spots-none a.book.now a.ends.now a.e l.at.old c.loop-at-test.false in
+    record { behind = omega (arith, ap length none); near = omega arith; put = λ fits. rw none at l.invariant.4 }
