@@ -110,7 +110,12 @@ fn first(numbers: &[u16; NUMBERS], n: usize) -> &[u16]
     &all[0..n]
 }
 
-fn show_writing<'a>(rt: &impl Print, room: usize, symbols: &'a [u8], trees: &'a [u8]) -> io::Result<()> {
+fn show_writing<'a>(
+    rt: &impl Print,
+    room: usize,
+    symbols: &'a [u8],
+    trees: &'a [u8],
+) -> io::Result<()> {
     let mut of_symbols = [0u16; NUMBERS];
     let mut of_trees = [0u16; NUMBERS];
     let n = numbers_of(symbols, &mut of_symbols);
@@ -122,7 +127,13 @@ fn show_writing<'a>(rt: &impl Print, room: usize, symbols: &'a [u8], trees: &'a 
         first(&of_trees, m),
         &mut bytes[0..lent],
     );
-    println!(rt; ": {} {} {}; bytes {}", w.number, w.row, w.bytes, sum_of(&bytes))
+    println!(rt;
+        ": {} {} {}; bytes {}",
+        w.number,
+        w.row,
+        w.bytes,
+        sum_of(&bytes)
+    )
 }
 
 // The checksum of the whole room, lent or not.
