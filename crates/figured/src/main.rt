@@ -59,7 +59,12 @@ fn totals_of(given: &[u8]) -> [u32; TOTALS] {
     totals
 }
 
-fn show_figures<'a>(rt: &impl Print, lent: usize, given: &'a [u8], books: &'a [u8]) -> io::Result<()> {
+fn show_figures<'a>(
+    rt: &impl Print,
+    lent: usize,
+    given: &'a [u8],
+    books: &'a [u8],
+) -> io::Result<()> {
     let mut totals = totals_of(given);
     let length = at_most(lent, TOTALS);
     let r = add_figures(books, &mut totals[0..length]);
