@@ -44,7 +44,13 @@ fn show_conversion(rt: &impl Print, book: &[u8], lent: usize) -> io::Result<()> 
     let mut room = [170u8; BYTES];
     let length = at_most(lent, BYTES);
     let r = convert_book(book, &mut room[0..length]);
-    println!(rt; ": {} {} {}; bytes {}", r.number, r.place, r.bytes, sum_of(&room))
+    println!(rt;
+        ": {} {} {}; bytes {}",
+        r.number,
+        r.place,
+        r.bytes,
+        sum_of(&room)
+    )
 }
 
 // The checksum of the whole room, lent or not.
