@@ -3,12 +3,12 @@ use mathlib.Core.Bool.{Bool, true, false, not, ◌&&◌}
 use mathlib.Core.Path.{◌≡◌, refl, ap}
 use mathlib.Core.Logic.{⊎_elim}
 use mathlib.Core.List.{List, [], ◌∷◌, ◌++◌}
-use Prim.Native.Nat.{ℕ, zero, suc, ◌+◌, ◌<◌}
+use Prim.Native.Nat.{ℕ, zero, suc, ◌<◌}
 use native.Mathlib.Omega.{arith}
 use borrow.Author.Tests.{ltb-true, not-false}
 use lib.Dec.{eqb}
 use lib.ListN.{length, length-append}
-use Rattle.reading.specs.Reading.{got, ◌then◌}
+use Rattle.reading.specs.Reading.{got}
 use Rattle.reading.proofs.Good.{Good, good, refused, good-got, each, then-good, unless}
 use Rattle.tagged.specs.Lines.{Name, Line, heading, broader, narrower, other, newline, line_of, cut_short, lines_from, lines_of}
 use Rattle.tagged.specs.Listing.{Relation, Lists, Broader, number_of, is_heading, lists_from, lists_of, mirrored_from, broader_from, broader_in}

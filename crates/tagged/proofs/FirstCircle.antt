@@ -39,7 +39,7 @@ some-marked marks (b ∷ bs) is = by (get_or marks b false) refl is (some-marked
     by true mark is rest = (b, first, mark)
     by false mark is rest = let (c, there, m) = rest is in (c, later there, m)
 
-pub marked-some : (marks : List Bool) {bs : List ℕ} {b : ℕ} → In b bs → Marked marks b → some_marked marks bs ≡ true
+pub marked-some : (marks : List Bool) {b : ℕ} {bs : List ℕ} → In b bs → Marked marks b → some_marked marks bs ≡ true
 unfolding some_marked
 marked-some marks first is = rw is refl
 marked-some marks (later {c} i) is = by (get_or marks c false) (marked-some marks i is)
@@ -77,7 +77,7 @@ unfolding lowest
 lowest-without marks b bs is = rw (is, lowest) refl
 
 -- no marked one is lower
-lowest-least : (marks : List Bool) {bs : List ℕ} {b : ℕ} → In b bs → Marked marks b → lowest marks bs ≤ b
+lowest-least : (marks : List Bool) {b : ℕ} {bs : List ℕ} → In b bs → Marked marks b → lowest marks bs ≤ b
 lowest-least marks {b = b} (first {bs}) is = omega (arith, lowest-with marks b bs is)
 lowest-least marks {b = b} (later {c} {bs} i) is = by (get_or marks c false) refl (lowest-least marks i is)
   where

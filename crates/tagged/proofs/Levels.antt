@@ -28,7 +28,7 @@ longest-is row (b ∷ bs) = by (dec_lt (longest row bs) (suc (get_or row b 0))) 
     by (no high) (inr (c, there, is)) = inr (c, later there, omega arith)
 
 -- and no less than any
-pub longest-over : (row : List ℕ) {bs : List ℕ} {b : ℕ} → In b bs → suc (get_or row b 0) ≤ longest row bs
+pub longest-over : (row : List ℕ) {b : ℕ} {bs : List ℕ} → In b bs → suc (get_or row b 0) ≤ longest row bs
 unfolding longest
 longest-over row first = omega arith
 longest-over row (later i) = omega (arith, longest-over row i)

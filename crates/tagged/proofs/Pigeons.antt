@@ -55,6 +55,7 @@ twice? (a ∷ l) = by (stands? a l) (twice? l)
 
 -- a row without one that stands in it
 without : {a : ℕ} (m : List ℕ) → In a m → (rest : List ℕ) × (length m ≡ suc (length rest)) × ((b : ℕ) → In b m → b ≢ a → In b rest)
+without {a = a} [] i = elim i [ ]
 without (a ∷ m) first = (m, refl, λ b i differs. keeps b (in_row i) differs)
   where
     keeps : (b : ℕ) → (b ≡ a) ⊎ In b m → b ≢ a → In b m

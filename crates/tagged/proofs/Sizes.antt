@@ -1,15 +1,15 @@
 -- The bytes of a listing's book, 5 + 13 n + 12 m + 4 z for n headings, m BT lines and z headings without BT, and when a size is passed.
 use mathlib.Core.Bool.{Bool, true, false, ◌||◌}
 use mathlib.Core.Path.{◌≡◌, refl, sym, ap, ◌∙◌}
-use mathlib.Core.List.{List, [], ◌∷◌, ◌++◌, map}
+use mathlib.Core.List.{List, [], ◌∷◌, ◌++◌}
 use Prim.Native.Nat.{ℕ, zero, suc, ◌+◌, ◌*◌, ◌≤◌, ◌<◌}
 use native.Mathlib.Omega.{arith}
 use borrow.Author.Tests.{lt-ltb, le-ltb}
 use lib.Dec.{ltb}
-use lib.ListN.{length, get_or, replicate, length-append, length-map, length-replicate}
+use lib.ListN.{length, get_or, replicate, length-append, length-map}
 use Rattle.limits.specs.Sizes.{most_book_bytes, most_symbols, most_expression_nodes}
 use Rattle.reading.specs.Bytes.{two_bytes}
-use Rattle.symbols.specs.Symbols.{Symbol, Symbols}
+use Rattle.symbols.specs.Symbols.{Symbols}
 use Rattle.expressions.specs.Expressions.{Expr, Exprs}
 use Rattle.book.specs.Trees.{Tree, Trees}
 use Rattle.tagged.specs.Listing.{Broader}

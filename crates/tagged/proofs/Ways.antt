@@ -1,7 +1,7 @@
 -- Ways and hops: a way over headings is so many hops, and one with more hops than there are headings goes round a shorter circle.
 use mathlib.Core.Path.{◌≡◌, refl, sym, ap}
 use mathlib.Core.List.{List, [], ◌∷◌, ◌++◌}
-use Prim.Native.Nat.{ℕ, zero, suc, ◌+◌, ◌≤◌, ◌<◌}
+use Prim.Native.Nat.{ℕ, zero, suc, ◌≤◌, ◌<◌}
 use native.Mathlib.Omega.{arith}
 use native.Mathlib.Decide.{dec_lt}
 use lib.ListN.{length, length-append, get_or-eq_default}
@@ -35,6 +35,7 @@ module _ (broader : Broader) where
   -- each heading of a way has a broader term
   way-low : {x z : ℕ} {ys : List ℕ} → Way broader x ys z → (a : ℕ) → In a (x ∷ ys) → a < length broader
   way-low (last there) a first = has-broader there
+  way-low (last {z = z} there) a (later i) = elim i [ ]
   way-low (next there way) a first = has-broader there
   way-low (next there way) a (later i) = way-low way a i
 

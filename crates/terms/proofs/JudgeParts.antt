@@ -1,18 +1,16 @@
 -- The definition's one walk over the lines equals the judge's three: forms, headings given twice, mirrors.
-use mathlib.Core.Bool.{Bool, true, false, not, ◌&&◌, ◌||◌, beq}
+use mathlib.Core.Bool.{Bool, true, false}
 use mathlib.Core.Path.{◌≡◌, refl, sym, ap, ◌∙◌}
 use mathlib.Core.List.{List, [], ◌∷◌, ◌++◌, append_assoc, append-nil}
-use Prim.Native.Nat.{ℕ, zero, suc, ◌+◌, ◌-◌, ◌≤◌, ◌<◌}
+use Prim.Native.Nat.{ℕ, zero, suc, ◌+◌, ◌-◌}
 use native.Mathlib.Omega.{arith}
-use native.Mathlib.Decide.{dec_lt, ℕ_discrete}
-use borrow.Author.Tests.{lt-ltb, le-ltb, ltb-true, ltb-false, eq-eqb, ne_eqb, eqb-true, eqb-false}
+use borrow.Author.Tests.{lt-ltb}
 use lib.Dec.{ltb, eqb, leb-suc-suc}
-use lib.ListN.{length, get_or, take, drop, length-append, length-drop, get_or-append}
-use lib.Seq.{get_or-append_seam, take_all}
-use Rattle.reading.specs.Reading.{Reading, got, refusal, ◌then◌, refuse◌at◌if◌else◌}
-use Rattle.tagged.specs.Lines.{Name, Line, heading, broader, narrower, other, same, lines_of}
-use Rattle.tagged.specs.Listing.{Relation, Lists, number_of, headings_of, is_heading, relation, lists_from, lists_of, mirrors, mirrored, mirrored_from, broader_from, broader_in, Broader}
-use Rattle.terms.specs.Judging.{good_lines, twice_from, mirror_lines, mirror_in, wants, unmirrored_from}
+use lib.ListN.{length, take, length-append}
+use Rattle.reading.specs.Reading.{Reading, got, refusal, refuse◌at◌if◌else◌}
+use Rattle.tagged.specs.Lines.{Name, Line, heading, broader, narrower, other}
+use Rattle.tagged.specs.Listing.{Relation, Lists, headings_of, is_heading, relation, lists_from}
+use Rattle.terms.specs.Judging.{good_lines, twice_from}
 
 -- ---- steps of the definitions
 

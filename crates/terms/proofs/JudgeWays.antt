@@ -9,14 +9,14 @@ use lib.Dec.{eqb}
 use lib.ListN.{length, get_or, drop, take, length-drop}
 use Rattle.tagged.specs.Lines.{Name, Line, heading, broader, narrower, other, newline, is_name, same, bt, nt, line_of, lines_from, lines_of}
 use Rattle.tagged.specs.Listing.{headings_of}
-use Rattle.terms.specs.Places.{run_of, end_of, bytes_of}
+use Rattle.terms.specs.Places.{run_of, end_of}
 use Rattle.terms.specs.InCode.{line_by}
 use Rattle.terms.specs.Judging.{kind_of, worth, good_lines, FormsAs, next_heading, name_at, line_at}
 use Rattle.terms.specs.declared.lines.Form.{Form}
 use Rattle.terms.specs.declared.lines.Form.TheVariants.{Heading, Broader, Narrower, Other}
 use Rattle.terms.proofs.LineWays.{end-past, end_later, end_after, line-at, line-cut-at, lines_past}
 use Rattle.terms.proofs.NameWays.{bytes-none, name-space}
-use Rattle.terms.proofs.TagWays.{tag_long, name-behind, line-broader, line_no_broader, line-narrower, line_no_narrower, line-heading, line_other}
+use Rattle.terms.proofs.TagWays.{line-broader, line_no_broader, line-narrower, line_no_narrower, line-heading, line_other}
 
 -- ---- a line ends in the listing
 

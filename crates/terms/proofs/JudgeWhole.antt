@@ -1,17 +1,17 @@
 -- The judge's three walks, put together, tell what the definition tells of a whole listing.
-use mathlib.Core.Bool.{Bool, true, false, not, ◌&&◌}
+use mathlib.Core.Bool.{Bool, true, false}
 use mathlib.Core.Path.{◌≡◌, refl, sym, ap, ◌∙◌}
 use mathlib.Core.List.{List, [], ◌∷◌, ◌++◌}
 use Prim.Native.Nat.{ℕ, zero, suc, ◌+◌, ◌-◌, ◌≤◌, ◌<◌}
 use native.Mathlib.Omega.{arith}
 use borrow.Author.Tests.{lt-ltb, ltb-false, eq-eqb, ne_eqb}
 use lib.Dec.{ltb, eqb}
-use lib.ListN.{length, get_or, take, drop}
+use lib.ListN.{length, get_or, take}
 use lib.Seq.{take_all}
 use Rattle.reading.specs.Reading.{Reading, got, refusal, ◌then◌, refuse◌at◌if◌else◌}
 use Rattle.tagged.specs.Lines.{Name, Line, heading, broader, narrower, other, line_of, cut_short, lines_from, lines_of}
-use Rattle.tagged.specs.Listing.{Relation, Lists, Broader, number_of, headings_of, is_heading, lists_from, lists_of, mirrored, mirrored_from, broader_from, broader_in}
-use Rattle.terms.specs.Judging.{good_lines, twice_from, mirror_in, wants, unmirrored_from}
+use Rattle.tagged.specs.Listing.{Relation, Lists, Broader, number_of, headings_of, is_heading, lists_of, mirrored, mirrored_from, broader_from, broader_in}
+use Rattle.terms.specs.Judging.{good_lines, twice_from, mirror_in, unmirrored_from}
 use Rattle.terms.proofs.JudgeParts.{relations_from, told, by_parts}
 use Rattle.terms.proofs.MirrorParts.{Own, own, Behind, behind-heading, behind-bt, behind-nt, bt-under, nt-under, other-bad, mirrored-by, mirrored-known}
 

@@ -1,6 +1,6 @@
 -- Lines met by their mirrors: what a line changes while all lines are looked up among those noted.
-use mathlib.Core.Bool.{Bool, true, false, ◌||◌, or-true}
-use mathlib.Core.Path.{◌≡◌, refl, sym, ap, ◌∙◌}
+use mathlib.Core.Bool.{true, false, or-true}
+use mathlib.Core.Path.{◌≡◌, sym, ap, ◌∙◌}
 use mathlib.Core.List.{List, [], ◌∷◌}
 use Prim.Native.Nat.{ℕ, ◌+◌, ◌≤◌, ◌<◌}
 use native.Mathlib.Omega.{arith}

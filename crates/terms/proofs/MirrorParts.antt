@@ -1,18 +1,17 @@
 -- Where no heading is given twice and all lines are good, the definition's mirrors, by headings' numbers, are the judge's, by names.
 use mathlib.Core.Bool.{Bool, true, false, not, ◌&&◌, ◌||◌, beq, and-true}
 use mathlib.Core.Path.{◌≡◌, refl, sym, ap, ◌∙◌}
-use mathlib.Core.List.{List, [], ◌∷◌, ◌++◌, append_assoc, append-nil}
-use Prim.Native.Nat.{ℕ, zero, suc, ◌+◌, ◌-◌, ◌≤◌, ◌<◌}
+use mathlib.Core.List.{List, [], ◌∷◌, ◌++◌, append_assoc}
+use Prim.Native.Nat.{ℕ, suc, ◌+◌, ◌-◌, ◌≤◌, ◌<◌}
 use native.Mathlib.Omega.{arith}
 use native.Mathlib.Decide.{ℕ_discrete}
-use borrow.Author.Tests.{lt-ltb, le-ltb, ltb-true, ltb-false, eq-eqb, ne_eqb, eqb-true, eqb-false}
-use lib.Dec.{ltb, eqb}
-use lib.ListN.{length, get_or, take, drop, length-append, length-drop}
+use borrow.Author.Tests.{ltb-false, eq-eqb, ne_eqb, eqb-true, eqb-false}
+use lib.Dec.{eqb}
+use lib.ListN.{length, get_or, drop, length-append}
 use lib.Seq.{get_or-append_seam}
-use Rattle.reading.specs.Reading.{Reading, got, refusal, refuse◌at◌if◌else◌}
 use Rattle.tagged.specs.Lines.{Name, Line, heading, broader, narrower, other, same}
-use Rattle.tagged.specs.Listing.{Relation, Lists, number_of, headings_of, is_heading, mirrors, mirrored, mirrored_from}
-use Rattle.terms.specs.Judging.{good_lines, twice_from, mirror_lines, mirror_in, wants, unmirrored_from}
+use Rattle.tagged.specs.Listing.{Relation, number_of, headings_of, is_heading, mirrors, mirrored}
+use Rattle.terms.specs.Judging.{good_lines, twice_from, mirror_lines, mirror_in}
 use Rattle.terms.proofs.TwiceWays.{the_next, one_more, behind-it}
 use Rattle.terms.proofs.JudgeParts.{relations_from, early-bt, early-nt, good-bt, good-nt, twice_found, twice-new}
 

@@ -1,16 +1,15 @@
 -- Mirrors: what two lines say of each other, and what a line changes in a walk.
-use mathlib.Core.Bool.{Bool, true, false, not, ◌&&◌, ◌||◌, and-true}
+use mathlib.Core.Bool.{Bool, true, false, ◌&&◌, ◌||◌, and-true}
 use mathlib.Core.Path.{◌≡◌, refl, sym, ap, ◌∙◌}
 use mathlib.Core.List.{List, [], ◌∷◌}
-use Prim.Native.Nat.{ℕ, suc, ◌+◌, ◌≤◌, ◌<◌}
+use Prim.Native.Nat.{ℕ, ◌+◌, ◌≤◌, ◌<◌}
 use native.Mathlib.Omega.{arith}
 use native.Mathlib.Decide.{ℕ_discrete}
 use native.Mathlib.Numerals.{add-one}
-use lib.ListN.{length, take, drop}
-use Rattle.tagged.specs.Lines.{Name, Line, heading, broader, narrower, other, same, bt, nt, line_of, lines_of}
+use lib.ListN.{length, drop}
+use Rattle.tagged.specs.Lines.{Name, Line, heading, broader, narrower, other, same, line_of, lines_of}
 use Rattle.terms.specs.Places.{end_of, bytes_of}
-use Rattle.terms.specs.Judging.{kind_of, mirror_lines, next_heading, mirror_in, is_relation, wants, unmirrored_from, name_at, line_at}
-use Rattle.terms.proofs.LineWays.{end_after}
+use Rattle.terms.specs.Judging.{kind_of, mirror_lines, next_heading, mirror_in, wants, unmirrored_from, name_at, line_at}
 use Rattle.terms.proofs.TagWays.{tag_long, name-behind}
 use Rattle.terms.proofs.JudgeWays.{lines_at, Formed, is-heading, is-broader, is-narrower, is-other, formed, kind_small, end-within}
 

@@ -1,16 +1,16 @@
 -- The ways through the code that gathers broader terms.
-use mathlib.Core.Bool.{Bool, true, false, ◌&&◌}
+use mathlib.Core.Bool.{false}
 use mathlib.Core.Path.{◌≡◌, refl, sym, ap, ◌∙◌}
 use mathlib.Core.List.{List, [], ◌∷◌}
-use Prim.Native.Nat.{ℕ, zero, suc, ◌+◌, ◌-◌, ◌*◌, ◌≤◌, ◌<◌}
+use Prim.Native.Nat.{ℕ, zero, suc, ◌+◌, ◌-◌, ◌≤◌, ◌<◌}
 use native.Mathlib.Omega.{arith}
 use borrow.Author.Tests.{le-leb, lt-leb}
 use lib.Dec.{leb}
-use lib.ListN.{length, take, drop, set}
+use lib.ListN.{take, drop, set}
 use lib.Seq.{take-nil, drop-drop}
-use Rattle.tagged.specs.Lines.{Name, Line, heading, broader, narrower, other, line_of}
+use Rattle.tagged.specs.Lines.{Name, heading, broader, narrower, other, line_of}
 use Rattle.tagged.specs.Listing.{number_of}
-use Rattle.terms.specs.Gathering.{Within, grown_by, sum_opened, sum_added, sum_after, from_after, to_after, RoomFor, LineTaken, within_by}
+use Rattle.terms.specs.Gathering.{grown_by, sum_opened, sum_added, RoomFor, LineTaken, within_by}
 use Rattle.terms.specs.Places.{bytes_of}
 use Rattle.terms.specs.InCode.{line_by}
 use Rattle.terms.specs.declared.terms.Sum.{Sum}

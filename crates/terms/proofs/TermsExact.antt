@@ -3,7 +3,7 @@ use mathlib.Core.Path.{◌≡◌, refl, sym, ap, ◌∙◌}
 use mathlib.Core.List.{List, [], ◌∷◌, ◌++◌, append_assoc}
 use Prim.Native.Nat.{ℕ, zero, suc, ◌+◌, ◌-◌, ◌≤◌, ◌<◌}
 use native.Mathlib.Omega.{arith}
-use lib.ListN.{length, get_or, take, drop, replicate, length-drop, length-replicate, length-append, take-append-drop}
+use lib.ListN.{length, get_or, drop, replicate, length-drop, length-replicate, length-append, take-append-drop}
 use lib.Seq.{drop-cons, drop-drop, length-take-le, get_or-drop}
 use Rattle.tagged.specs.Listing.{Broader}
 use Rattle.terms.specs.Places.{bytes_of}

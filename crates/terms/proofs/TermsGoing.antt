@@ -2,21 +2,21 @@
 use mathlib.Core.Bool.{Bool, true, false, ◌&&◌}
 use mathlib.Core.Path.{◌≡◌, refl, sym, ap, subst, ◌∙◌}
 use mathlib.Core.List.{List, [], ◌∷◌, ◌++◌}
-use Prim.Native.Nat.{ℕ, zero, suc, ◌+◌, ◌-◌, ◌*◌, ◌≤◌, ◌<◌}
+use Prim.Native.Nat.{ℕ, zero, suc, ◌+◌, ◌-◌, ◌≤◌, ◌<◌}
 use native.Mathlib.Omega.{arith}
 use native.Mathlib.Decide.{ℕ_discrete, dec_lt}
 use borrow.Author.Tests.{leb-true, leb-false}
 use lib.Dec.{leb}
-use lib.ListN.{length, get_or, drop, replicate, length-append, length-replicate}
+use lib.ListN.{length, get_or, drop, length-append}
 use Rattle.reading.specs.Reading.{Reading, got, refusal}
 use Rattle.tagged.specs.Lines.{Name, Line, heading, broader, narrower, other, line_of, lines_from, lines_of}
-use Rattle.tagged.specs.Listing.{Relation, Lists, Broader, number_of, headings_of, relation, lists_from, broader_of, broader_from, broader_in}
+use Rattle.tagged.specs.Listing.{Relation, Lists, Broader, headings_of, relation, lists_from, broader_of, broader_from, broader_in}
 use Rattle.terms.specs.Places.{end_of, bytes_of}
 use Rattle.tagged.specs.Terms.{rules_for}
 use Rattle.tagged.specs.Laid.{laid}
 use Rattle.tagged.specs.Write.{passes}
-use Rattle.terms.specs.TermRows.{broader_rows, HoldTerms, Fitting, TermsAs, terms_told, refused_as, held_as}
-use Rattle.terms.specs.Gathering.{FewHeadings, Within, LineTaken, RoomFor, within_by, sum_opened, sum_added, sum_after, from_after, to_after}
+use Rattle.terms.specs.TermRows.{broader_rows, Fitting, TermsAs, terms_told, refused_as, held_as}
+use Rattle.terms.specs.Gathering.{FewHeadings, Within, LineTaken, RoomFor, within_by}
 use Rattle.terms.specs.declared.terms.Sum.{Sum}
 use Rattle.terms.specs.declared.terms.Terms.{Terms}
 use Rattle.tagged.proofs.Accepted.{row_count_lem}

@@ -1,21 +1,21 @@
 -- What the two rows hold of broader terms: an invariant of the pass over the lines, and how each line keeps it.
-use mathlib.Core.Bool.{Bool, true, false}
+use mathlib.Core.Bool.{true, false}
 use mathlib.Core.Path.{◌≡◌, refl, sym, ap, ◌∙◌}
-use mathlib.Core.List.{List, [], ◌∷◌, ◌++◌, append-nil}
+use mathlib.Core.List.{List, [], ◌∷◌, ◌++◌}
 use Prim.Native.Nat.{ℕ, zero, suc, ◌+◌, ◌-◌, ◌*◌, ◌≤◌, ◌<◌}
 use native.Mathlib.Omega.{arith}
 use native.Mathlib.Numerals.{add-one}
-use native.Mathlib.Decide.{ℕ_discrete, dec_lt}
+use native.Mathlib.Decide.{ℕ_discrete}
 use lib.ListN.{length, get_or, take, drop, set, length-append, length-drop, length-set}
 use lib.Seq.{get_or-set_same, get_or-set_other, take-set-le, drop-set-add, take-suc-set}
 use Rattle.tagged.specs.Lines.{Name}
 use Rattle.tagged.specs.Listing.{Relation, Lists, Broader, number_of, broader_of, broader_from}
 use Rattle.terms.specs.Places.{bytes_of}
-use Rattle.terms.specs.Gathering.{Within, grown_by, sum_opened, sum_added}
+use Rattle.terms.specs.Gathering.{grown_by, sum_opened, sum_added}
 use Rattle.terms.specs.declared.terms.Sum.{Sum}
 use Rattle.tagged.proofs.Sizes.{heading_bytes, all_bytes}
 use Rattle.terms.proofs.TermWays.{grown_small}
-use Rattle.terms.proofs.TermsRead.{broader_append, broader-own, broader-others, narrower-none}
+use Rattle.terms.proofs.TermsRead.{broader-own, broader-others, narrower-none}
 
 -- ---- a row of numbers after a store
 

@@ -15,7 +15,7 @@ use Rattle.terms.specs.Gathering.{Noted, AllNoted, LineNoted, RoomToNote}
 use Rattle.terms.specs.InCode.{line_by}
 use Rattle.terms.specs.declared.lines.Form.{Form}
 use Rattle.terms.specs.declared.lines.Form.TheVariants.{Heading, Broader, Narrower, Other}
-use Rattle.terms.proofs.LineWays.{end_after, line-at, line-cut-at, lines_past}
+use Rattle.terms.proofs.LineWays.{line-at, line-cut-at, lines_past}
 
 -- ---- a name among headings
 

@@ -1,18 +1,18 @@
 -- What the lines of a good listing give, one after the other: its headings, and the relations so far with those still to come.
-use mathlib.Core.Bool.{Bool, true, false, not, ◌&&◌}
+use mathlib.Core.Bool.{Bool, true, false, ◌&&◌}
 use mathlib.Core.Path.{◌≡◌, refl, sym, ap, ◌∙◌}
 use mathlib.Core.List.{List, [], ◌∷◌, ◌++◌, append_assoc, append-nil}
-use Prim.Native.Nat.{ℕ, zero, suc, ◌+◌, ◌-◌, ◌≤◌, ◌<◌}
+use Prim.Native.Nat.{ℕ, suc, ◌<◌}
 use native.Mathlib.Omega.{arith}
-use borrow.Author.Tests.{eq-eqb, ne_eqb, eqb-true, eqb-false}
+use borrow.Author.Tests.{eq-eqb, ne_eqb, eqb-false}
 use lib.Dec.{eqb}
-use lib.ListN.{length, get_or, length-append}
-use Rattle.reading.specs.Reading.{Reading, got, refusal, ◌then◌, refuse◌at◌if◌else◌}
+use lib.ListN.{length}
+use Rattle.reading.specs.Reading.{Reading, got, refuse◌at◌if◌else◌}
 use Rattle.reading.proofs.Good.{Good, good, refused, good-got, each, whenever, then-good, unless}
 use Rattle.tagged.specs.Lines.{Name, Line, heading, broader, narrower, other, lines_of}
-use Rattle.tagged.specs.Listing.{Relation, Lists, Broader, number_of, headings_of, relation, lists_from, lists_of, mirrored_from}
+use Rattle.tagged.specs.Listing.{Relation, Lists, Broader, number_of, headings_of, relation, lists_from, lists_of}
 use Rattle.tagged.specs.Listing.{broader_of, broader_from, broader_in}
-use Rattle.tagged.proofs.Accepted.{Known, none, more, mirrors-known, row_count_lem}
+use Rattle.tagged.proofs.Accepted.{Known, more, mirrors-known}
 
 -- ---- what all lines give
 

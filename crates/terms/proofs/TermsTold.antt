@@ -1,8 +1,7 @@
 -- What is told of a listing's terms, by what its judge tells.
-use mathlib.Core.Path.{◌≡◌, refl, sym, ◌∙◌}
-use Prim.Native.Nat.{ℕ, ◌≤◌, ◌<◌}
+use mathlib.Core.Path.{◌≡◌, refl}
+use Prim.Native.Nat.{◌≤◌, ◌<◌}
 use native.Mathlib.Omega.{arith}
-use lib.ListN.{length}
 use Rattle.reading.specs.Reading.{Reading, got, refusal}
 use Rattle.tagged.specs.Listing.{Broader}
 use Rattle.terms.specs.TermRows.{JudgedAs, refused_as}

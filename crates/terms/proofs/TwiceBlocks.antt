@@ -5,12 +5,12 @@ use mathlib.Core.List.{List, [], ◌∷◌}
 use Prim.Native.Nat.{ℕ, zero, suc, ◌+◌, ◌-◌, ◌≤◌, ◌<◌}
 use native.Mathlib.Omega.{arith}
 use native.Mathlib.Decide.{ℕ_discrete, dec_lt}
-use lib.ListN.{length, get_or, drop, set, get_or-eq_default}
+use lib.ListN.{length, get_or, drop, set}
 use lib.Seq.{get_or-drop, drop-drop, get_or-set_same, get_or-set_other}
 use Rattle.tagged.specs.Lines.{Name, Line, heading, broader, narrower, other, same, lines_of}
 use Rattle.terms.specs.Places.{end_of}
 use Rattle.terms.specs.Judging.{kind_of, name_at, line_at}
-use Rattle.terms.specs.Blocks.{gives, gives_same, nth, Once, TwiceFirst, table_size, name_of, Sought, Table, Entered, Block, Begins, Known, KnownBy, KnownFirst, Rows, FilledAs}
+use Rattle.terms.specs.Blocks.{gives, gives_same, nth, Once, TwiceFirst, table_size, name_of, Table, Entered, Block, Begins, Known, KnownBy, KnownFirst, FilledAs}
 use Rattle.terms.proofs.LineWays.{line-at, line-cut-at, lines_past}
 use Rattle.terms.proofs.JudgeWays.{heading-bytes}
 use Rattle.terms.proofs.TwiceChains.{table_more}

@@ -7,12 +7,12 @@ use native.Mathlib.Omega.{arith}
 use native.Mathlib.Decide.{dec_lt, ℕ_discrete}
 use borrow.Author.Tests.{lt-ltb, ltb-true}
 use lib.Dec.{ltb, leb-suc-suc}
-use lib.ListN.{length, get_or, take, drop, length-append, length-take, length-drop, take-append-drop, get_or-append, get_or-eq_default}
-use lib.Seq.{get_or-append_seam, get_or-take, get_or-drop, drop-cons, length-take-le, take-take, take_all, take-add}
+use lib.ListN.{length, get_or, take, drop, length-append, length-take, take-append-drop, get_or-append, get_or-eq_default}
+use lib.Seq.{get_or-append_seam, get_or-take, drop-cons, length-take-le, take-take}
 use Rattle.tagged.specs.Lines.{Name, Line, heading, broader, narrower, other, same, lines_of}
 use Rattle.tagged.specs.Listing.{number_of, headings_of, is_heading}
 use Rattle.terms.specs.Judging.{twice_from}
-use Rattle.terms.specs.Blocks.{gives, gives_same, nth, Once, TwiceFirst, Begins, BestSoFar, Block, Known, KnownFirst, FilledAs, table_size, name_of}
+use Rattle.terms.specs.Blocks.{gives, gives_same, nth, Once, TwiceFirst, Begins, BestSoFar, Block, Known, KnownFirst, table_size}
 use Rattle.terms.proofs.JudgeParts.{twice_found, twice-new}
 use Rattle.terms.proofs.TwiceBlocks.{both_head, nth_past}
 

@@ -1,5 +1,5 @@
 -- How the code gathers broader terms, line by line: in sums and in the two rows of TermRows. For contracts of inner functions.
-use Rattle.std.specs.Prelude.{Bool, true, false, ◌&&◌, ◌≡◌, List, [], ℕ, zero, suc, ◌+◌, ◌*◌, ◌≤◌, ◌<◌, leb, length, get_or, set}
+use Rattle.std.specs.Prelude.{Bool, ◌&&◌, ◌≡◌, List, [], ℕ, zero, suc, ◌+◌, ◌*◌, ◌≤◌, ◌<◌, leb, length, get_or, set}
 use Rattle.limits.specs.Sizes.{most_book_bytes}
 use Rattle.reading.specs.Reading.{Reading, got, refusal}
 use Rattle.tagged.specs.Lines.{Name, Line, heading, broader, narrower, other, lines_of}

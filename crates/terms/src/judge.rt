@@ -148,10 +148,10 @@ fn in_table(
     at: usize,
     to: usize,
 ) -> bool
-    requires fact_1 { Inside s.now place.now from }
-    requires fact_2 { Chained (λ (k : ℕ). hash_of (name_of s.now place.now k)) before.now from }
-    requires fact_3 { (0 < from → hash_of (name_of s.now place.now (from - 1)) ≡ hash_of (bytes_of s.now at to)) }
-    requires fact_4 { (from ≤ table_size) × (to ≤ length s.now) }
+    requires inside { Inside s.now place.now from }
+    requires chained { Chained (λ (k : ℕ). hash_of (name_of s.now place.now k)) before.now from }
+    requires same_hash { 0 < from → hash_of (name_of s.now place.now (from - 1)) ≡ hash_of (bytes_of s.now at to) }
+    requires bounds { (from ≤ table_size) × (to ≤ length s.now) }
     ensures { Sought result s.now place.now from (bytes_of s.now at to) }
 {
     let mut i = from;
@@ -175,8 +175,8 @@ fn enter(
     before: &mut [usize; TABLE],
     last: &mut [usize; TABLE],
 ) -> usize
-    requires fact_1 { Table s.now place.old before.old last.old count }
-    requires fact_2 { (at ≤ length s.now) × (count < table_size) }
+    requires table { Table s.now place.old before.old last.old count }
+    requires bounds { (at ≤ length s.now) × (count < table_size) }
     ensures { Entered result s.now at count place.old before.old last.old
         place.new before.new last.new }
 {
@@ -206,8 +206,8 @@ fn fill(
     before: &mut [usize; TABLE],
     last: &mut [usize; TABLE],
 ) -> Filled
-    requires fact_1 { Begins s.now at line }
-    requires fact_2 { Rows place.old before.old last.old }
+    requires begins { Begins s.now at line }
+    requires rows { Rows place.old before.old last.old }
     ensures { FilledAs result s.now at line until place.new before.new last.new }
 {
     clear(last);
@@ -269,8 +269,8 @@ fn known_at(
     before: &[usize; TABLE],
     last: &[usize; TABLE],
 ) -> bool
-    requires fact_1 { Table s.now place.now before.now last.now table_size }
-    requires fact_2 { at ≤ length s.now }
+    requires table { Table s.now place.now before.now last.now table_size }
+    requires inside { at ≤ length s.now }
     ensures { KnownBy result s.now place.now at }
 {
     let kind = kind_at(s, at);
@@ -293,8 +293,8 @@ fn first_known(
     before: &[usize; TABLE],
     last: &[usize; TABLE],
 ) -> usize
-    requires fact_1 { Begins s.now at line }
-    requires fact_2 { Table s.now place.now before.now last.now table_size }
+    requires begins { Begins s.now at line }
+    requires table { Table s.now place.now before.now last.now table_size }
     ensures { KnownFirst s.now place.now line until result }
 {
     let mut p = at;
@@ -529,9 +529,9 @@ fn meet_entry(
     head: &[usize; TABLE],
     met: &mut [usize; TABLE],
 ) -> bool
-    requires fact_1 { Under s.now g q }
-    requires fact_2 { Met s.now place.now head.now met.old }
-    requires fact_3 { k < table_size }
+    requires under { Under s.now g q }
+    requires mirrored { Met s.now place.now head.now met.old }
+    requires entry { k < table_size }
     ensures { Met s.now place.now head.now met.new }
 {
     let p = place[k];
@@ -563,8 +563,8 @@ fn meet_line(
     last: &[usize; TABLE],
     met: &mut [usize; TABLE],
 )
-    requires fact_1 { Under s.now g q }
-    requires fact_2 { Met s.now place.now head.now met.old }
+    requires under { Under s.now g q }
+    requires mirrored { Met s.now place.now head.now met.old }
     ensures { Met s.now place.now head.now met.new }
 {
     let side = side_at(s, q);
@@ -641,10 +641,10 @@ fn entry_at(
     head: &mut [usize; TABLE],
     met: &mut [usize; TABLE],
 ) -> usize
-    requires fact_1 { (h ≤ length s.now) × (p ≤ length s.now) }
-    requires fact_2 { Met s.now place.old head.old met.old }
-    ensures fact_1 { result ≤ k }
-    ensures fact_2 { Met s.now place.new head.new met.new }
+    requires places { (h ≤ length s.now) × (p ≤ length s.now) }
+    requires mirrored { Met s.now place.old head.old met.old }
+    ensures low { result ≤ k }
+    ensures mirrored { Met s.now place.new head.new met.new }
 {
     if is_noted(h, p, k, place, head) {
         return k;
@@ -687,8 +687,8 @@ fn lacks_mirror(
     head: &[usize; TABLE],
     met: &[usize; TABLE],
 ) -> bool
-    requires fact_1 { (h ≤ length s.now) × (p ≤ length s.now) }
-    requires fact_2 { Met s.now place.now head.now met.now }
+    requires places { (h ≤ length s.now) × (p ≤ length s.now) }
+    requires mirrored { Met s.now place.now head.now met.now }
     ensures { result ≡ wants (lines_of s.now) (name_at s.now h) (line_at s.now p) }
 {
     let kind = kind_at(s, p);

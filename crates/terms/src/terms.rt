@@ -76,8 +76,8 @@ fn note_line(
 
 // All headings are noted by the places where their names open and end, so that a name is looked up without going over the lines again.
 fn note_headings(s: &[u8], opens: &mut [usize; HEADINGS], ends: &mut [usize; HEADINGS]) -> usize
-    requires s_len_bound { length (headings_of (lines_of s.now)) ≤ most_headings }
-    requires opens_len { (length opens.old ≡ most_headings) × (length ends.old ≡ most_headings) }
+    requires few { length (headings_of (lines_of s.now)) ≤ most_headings }
+    requires sized { (length opens.old ≡ most_headings) × (length ends.old ≡ most_headings) }
     ensures { AllNoted s.now opens.new ends.new result }
 {
     let mut count: usize = 0;
@@ -156,9 +156,9 @@ fn open_row(sum: Sum, from: &mut [u16; ROWS]) -> Sum
 // A BT line: one more term in the last heading's row.
 fn add_term(sum: Sum, term: usize, from: &mut [u16; ROWS], to: &mut [u16; TERMS]) -> Sum
     requires { Within sum × (term < most_headings) }
-    ensures value { result ≡ sum_added sum }
-    ensures from_after { from.new ≡ set from.old sum.headings (sum.terms + 1) }
-    ensures to_after { to.new ≡ set to.old sum.terms term }
+    ensures added { result ≡ sum_added sum }
+    ensures row_ends { from.new ≡ set from.old sum.headings (sum.terms + 1) }
+    ensures term_noted { to.new ≡ set to.old sum.terms term }
 {
     let x = sum.headings;
     let own = sum.own;
@@ -185,8 +185,8 @@ fn take_line(
     from: &mut [u16; ROWS],
     to: &mut [u16; TERMS],
 ) -> Sum
-    requires at_le_end { (at ≤ end) × (end ≤ length s.now) × Within sum × RoomFor (headings_of (lines_of s.now)) (line_of (bytes_of s.now at end)) sum }
-    requires all_noted { AllNoted s.now opens.now ends.now count }
+    requires room { (at ≤ end) × (end ≤ length s.now) × Within sum × RoomFor (headings_of (lines_of s.now)) (line_of (bytes_of s.now at end)) sum }
+    requires noted { AllNoted s.now opens.now ends.now count }
     ensures { LineTaken (headings_of (lines_of s.now)) (line_of (bytes_of s.now at end)) sum result
         from.old from.new to.old to.new }
 {

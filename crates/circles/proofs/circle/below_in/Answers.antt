@@ -1,0 +1,33 @@
+-- `below_in` meets its contract: the marks are those of i hops.
+use mathlib.Core.Path.{◌≡◌}
+use native.Mathlib.Omega.{arith}
+use native.Mathlib.Numerals.{add-one}
+use Rattle.circles.specs.Saving.{held}
+use Rattle.circles.proofs.SavingRows.{held-length}
+use Rattle.circles.proofs.MarkWays.{below_none, hop-below}
+use Rattle.circles.proofs.circle.below_in.Goals as goal
+
+pub mark_at-marks-requires : goal.mark_at-marks-requires
+mark_at-marks-requires c = (c.requires.1, c.requires.0.terms.few)
+
+pub loop-i-init : goal.loop-i-init
+loop-i-init c =
+    let a = c.args in
+    let broader = held a.from.now a.to.now a.n in
+    (omega arith, below_none broader a.x a.n c.mark_at-marks.result (held-length a.from.now a.to.now a.n 0) c.mark_at-marks.ensures)
+
+pub one_hop-marks-requires : goal.one_hop-marks-requires
+one_hop-marks-requires c = c.requires.0
+
+pub loop-i-preserved : goal.loop-i-preserved
+loop-i-preserved c =
+    let a = c.args in
+    let loop = c.loop-i in
+    let broader = held a.from.now a.to.now a.n in
+    (omega arith, rw add-one (hop-below broader a.x loop.i loop.marks c.one_hop-marks.result loop.invariant.1 c.one_hop-marks.ensures))
+
+pub returns : goal.returns
+returns c =
+    let loop = c.loop-i in
+    let e : loop.i ≡ c.args.k = omega (arith, loop.invariant.0) in
+    rw e at loop.invariant.1

@@ -1,0 +1,58 @@
+-- `levels_of` meets its contract: the row has the chains of k rounds.
+use mathlib.Core.Path.{◌≡◌}
+use Prim.Native.Nat.{ℕ}
+use native.Mathlib.Omega.{arith}
+use Rattle.circles.specs.Saving.{held}
+use Rattle.circles.proofs.SavingRows.{held-length}
+use Rattle.circles.proofs.RoundWays.{rounded_none, rounded_low, rounded_more, rounded_clear, rounded_levels, rounded_round}
+use Rattle.circles.proofs.circle.levels_of.Goals as goal
+
+pub loop-k-init : goal.loop-k-init
+loop-k-init c = (omega arith, rounded_none (held c.args.from.now c.args.to.now c.args.n) 341)
+
+pub one_round-next-requires : goal.one_round-next-requires
+one_round-next-requires c =
+    let a = c.args in
+    let loop = c.loop-k in
+    (c.requires, rounded_low (held a.from.now a.to.now a.n) loop.k loop.row loop.invariant.1 (omega (arith, c.requires.terms.few)))
+
+pub same_row-requires : goal.same_row-requires
+same_row-requires c = c.requires.terms.few
+
+pub returns-then-same_row : goal.returns-then-same_row
+returns-then-same_row c =
+    let a = c.args in
+    let loop = c.loop-k in
+    let broader = held a.from.now a.to.now a.n in
+    let long = held-length a.from.now a.to.now a.n 0 in
+    let alike = c.same_row.ensures.same c.if-same_row.true in
+    let next = c.one_round-next in
+    record {
+      clear = λ e. rounded_clear broader loop.k a.n loop.row next.result long loop.invariant.1 next.ensures alike;
+      row = λ e. rounded_levels broader loop.k a.n loop.row next.result long loop.invariant.1 next.ensures alike (omega arith);
+      round = λ e. absurd (let z : ◌≡◌ {A = ℕ} 0 1 = cc in omega arith);
+    }
+
+pub overflow_add-k : goal.overflow_add-k
+overflow_add-k c = omega (arith, c.requires.terms.few)
+
+pub loop-k-preserved : goal.loop-k-preserved
+loop-k-preserved c =
+    let a = c.args in
+    let loop = c.loop-k in
+    let broader = held a.from.now a.to.now a.n in
+    let differ = c.same_row.ensures.other c.if-same_row.false in
+    let next = c.one_round-next in
+    (omega arith, rounded_more broader loop.k loop.row next.result loop.invariant.1 next.ensures differ)
+
+pub returns : goal.returns
+returns c =
+    let a = c.args in
+    let loop = c.loop-k in
+    let broader = held a.from.now a.to.now a.n in
+    let long = held-length a.from.now a.to.now a.n 0 in
+    record {
+      clear = λ e. absurd (let z : ◌≡◌ {A = ℕ} 0 1 = cc in omega arith);
+      row = λ e. absurd (let z : ◌≡◌ {A = ℕ} 0 1 = cc in omega arith);
+      round = λ e. rounded_round broader loop.k loop.row (omega arith) loop.invariant.1;
+    }
