@@ -27,7 +27,7 @@ module _ (c : After-read_book-index) where
   other is = c.if-byte-eq2.false (c.byte.ensures ∙ is)
 
   bytes : Bytes book
-  bytes i = omega (arith, c.shared_slice_known-1.given i)
+  bytes i = omega (arith, c.type_inv.book i)
 
 pub returns-then-book-gt-BOOK : goal.returns-then-book-gt-BOOK
 returns-then-book-gt-BOOK c =
