@@ -2,40 +2,45 @@
 // both are admitted, and its label. tools/admission_cases.py makes the table and says what document 01 has for each row.
 #![tactic(auto)]
 
-ghost use Rattle.std.specs.Prelude.{◌<◌, ◌≤◌, length};
+ghost use Rattle.std.specs.Prelude.{◌<◌, ◌≤◌, length, IfOk};
 
 use book::read_book;
 use question::read_question;
 use reading::{Reading, part_of};
-use tables::behind;
+use std::io;
+use tables::{behind, read_full};
 
-fn main() {
+fn main(rt: HostRuntime) -> io::Result<()> {
     let mut input = [0u8; 262144];
-    let n = io::read_full(0, &mut input);
-    show_all(&input[..n]);
+    let n = read_full(&mut rt.stdin(), &mut input)?;
+    show_all(&rt, &input[..n])
 }
 
-fn show_all(input: &[u8])
+fn show_all(rt: &impl Print, input: &[u8]) -> io::Result<()>
     requires { length input.now ≤ 262144 }
 {
     let mut p: usize = 0;
     while p < input.len() {
-        p = show_row(input, p);
+        p = show_row(rt, input, p)?;
     }
+    Ok(())
 }
 
 // One row: its label, its book and its question, each behind its length. The answer is the place behind it.
-fn show_row(input: &[u8], p: usize) -> usize
+fn show_row(rt: &impl Print, input: &[u8], p: usize) -> io::Result<usize>
     requires { (p < length input.now) × (length input.now ≤ 262144) }
-    ensures { p < result }
+    ensures { IfOk result (λ end. p < end) }
 {
     let b = behind(input, p);
     let q = behind(input, b);
     let end = behind(input, q);
-    show_verdict(verdict(part_of(input, b + 2, q), part_of(input, q + 2, end)));
-    io::write_all(1, part_of(input, p + 2, b));
-    io::write_all(1, b"\n");
-    end
+    show_verdict(
+        rt,
+        verdict(part_of(input, b + 2, q), part_of(input, q + 2, end)),
+    )?;
+    rt.write_all(part_of(input, p + 2, b))?;
+    rt.write_all(b"\n")?;
+    Ok(end)
 }
 
 fn verdict<'a>(book: &'a [u8], question: &'a [u8]) -> Reading {
@@ -53,16 +58,13 @@ fn verdict<'a>(book: &'a [u8], question: &'a [u8]) -> Reading {
     }
 }
 
-fn show_verdict(r: Reading) {
+fn show_verdict(rt: &impl Print, r: Reading) -> io::Result<()> {
     match r {
-        Reading::Refusal { number, place } => show_numbers(number as u64, place as u64),
-        Reading::Got { value: _, next: _ } => show_numbers(0, 0),
+        Reading::Refusal { number, place } => show_numbers(rt, number as u64, place as u64),
+        Reading::Got { value: _, next: _ } => show_numbers(rt, 0, 0),
     }
 }
 
-fn show_numbers(a: u64, b: u64) {
-    io::print_decimal(1, a);
-    io::write_all(1, b" ");
-    io::print_decimal(1, b);
-    io::write_all(1, b" ");
+fn show_numbers(rt: &impl Print, a: u64, b: u64) -> io::Result<()> {
+    print!(rt; "{a} {b} ")
 }

@@ -2,11 +2,12 @@
 // level, and with one the headings that stand in it, in order, each behind the line of its BT that leads to the next: the lines to look at.
 #![tactic(auto)]
 
-ghost use Rattle.std.specs.Prelude.{◌<◌, ◌≤◌, length};
+ghost use Rattle.std.specs.Prelude.{◌<◌, ◌≤◌, length, IfOk};
 
 use circles::save_listing;
 use reading::{byte, part_of};
-use tables::show_item;
+use std::io;
+use tables::read_full;
 
 // The longest listing that is read; of a longer one only `J` is printed.
 const LONGEST: usize = 262143;
@@ -15,32 +16,26 @@ const LONGEST: usize = 262143;
 const HEADINGS: usize = 341;
 
 // One byte more than the longest listing, so that a longer one is seen.
-fn main() {
+fn main(rt: HostRuntime) -> io::Result<()> {
     let mut input = [0u8; LONGEST + 1];
-    let n = io::read_full(0, &mut input);
-    show_saved(&input[..n]);
+    let n = read_full(&mut rt.stdin(), &mut input)?;
+    show_saved(&rt, &input[..n])
 }
 
-fn show_saved(listing: &[u8]) {
+fn show_saved(rt: &impl Print, listing: &[u8]) -> io::Result<()> {
     if LONGEST < listing.len() {
-        io::write_all(1, b"J\n");
-        return;
+        return println!(rt; "J");
     }
     let mut row = [0u16; HEADINGS];
     let r = save_listing(listing, &mut row);
-    io::write_all(1, b"R");
-    show_item(r.number as u64);
-    show_item(r.line as u64);
-    show_item(r.headings as u64);
-    show_item(r.circle as u64);
-    io::write_all(1, b"\n");
+    println!(rt; "R {} {} {} {}", r.number, r.line, r.headings, r.circle)?;
     if r.number != 0 {
-        return;
+        return Ok(());
     }
     if r.circle == 0 {
-        show_levels(listing, &row);
+        show_levels(rt, listing, &row)
     } else {
-        show_circle(listing, &row, r.circle);
+        show_circle(rt, listing, &row, r.circle)
     }
 }
 
@@ -143,56 +138,58 @@ fn wide(n: u16) -> usize {
     n as usize
 }
 
-fn show_line(n: usize, name: &[u8]) {
-    io::print_decimal(1, n as u64);
-    io::write_all(1, b" ");
-    io::write_all(1, name);
-    io::write_all(1, b"\n");
+fn show_line(rt: &impl Print, n: usize, name: &[u8]) -> io::Result<()> {
+    print!(rt; "{n} ")?;
+    rt.write_all(name)?;
+    rt.write_all(b"\n")
 }
 
 // Each heading, in listing order, behind its level.
-fn show_levels<'a>(listing: &'a [u8], row: &'a [u16; HEADINGS])
+fn show_levels<'a>(rt: &impl Print, listing: &'a [u8], row: &'a [u16; HEADINGS]) -> io::Result<()>
     requires { length listing.now ≤ 262144 }
 {
     let mut x: usize = 0;
     let mut p: usize = 0;
     while p < listing.len() {
-        x += show_level(listing, p, number_in(row, x));
+        x += show_level(rt, listing, p, number_in(row, x))?;
         p = behind_line(listing, p);
     }
+    Ok(())
 }
 
 // The line at p, if it is a heading's: how many headings were printed.
-fn show_level(listing: &[u8], p: usize, level: usize) -> usize
+fn show_level(rt: &impl Print, listing: &[u8], p: usize, level: usize) -> io::Result<usize>
     requires { length listing.now ≤ 262144 }
-    ensures { result ≤ 1 }
+    ensures { IfOk result (λ shown. shown ≤ 1) }
 {
     if is_heading(listing, p) {
-        show_line(level, name_at(listing, p));
-        return 1;
+        show_line(rt, level, name_at(listing, p))?;
+        return Ok(1);
     }
-    0
+    Ok(0)
 }
 
 // The headings of the circle, the last of which leads to the first.
-fn show_circle<'a>(listing: &'a [u8], row: &'a [u16; HEADINGS], count: usize)
+fn show_circle<'a>(rt: &impl Print, listing: &'a [u8], row: &'a [u16; HEADINGS], count: usize) -> io::Result<()>
     requires { length listing.now ≤ 262144 }
 {
     let mut i: usize = 0;
     while i < count {
         let next = if i + 1 < count { i + 1 } else { 0 };
-        show_hop(listing, number_in(row, i), number_in(row, next));
+        show_hop(rt, listing, number_in(row, i), number_in(row, next))?;
         i += 1;
     }
+    Ok(())
 }
 
-fn show_hop(listing: &[u8], x: usize, y: usize)
+fn show_hop(rt: &impl Print, listing: &[u8], x: usize, y: usize) -> io::Result<()>
     requires { length listing.now ≤ 262144 }
 {
     let p = heading_at(listing, x);
     let q = heading_at(listing, y);
     show_line(
+        rt,
         broader_line(listing, p, name_at(listing, q)),
         name_at(listing, p),
-    );
+    )
 }

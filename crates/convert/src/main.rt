@@ -4,31 +4,27 @@
 use converter::convert_book;
 use limits::Limits;
 use reading::{number, part_of};
-use tables::{show_hex, show_item};
+use std::io;
+use tables::{read_full, show_hex};
 
 // The longest input: a book of 65,535 bytes behind its length.
 const LONGEST: usize = 2 + 65535;
 
 // One byte more than the longest input, so that bytes left over are seen.
-fn main() {
+fn main(rt: HostRuntime) -> io::Result<()> {
     let mut input = [0u8; LONGEST + 1];
-    let n = io::read_full(0, &mut input);
-    convert(&input[..n]);
+    let n = read_full(&mut rt.stdin(), &mut input)?;
+    convert(&rt, &input[..n])
 }
 
 // Input that is cut short or has bytes left over prints only `J`.
-fn convert(input: &[u8]) {
+fn convert(rt: &impl Print, input: &[u8]) -> io::Result<()> {
     let end = 2 + number(input, 0);
     if input.len() != end {
-        io::write_all(1, b"J\n");
-        return;
+        return println!(rt; "J");
     }
     let mut room = [0u8; Limits::BOOK];
     let r = convert_book(part_of(input, 2, end), &mut room);
-    io::write_all(1, b"R");
-    show_item(r.number as u64);
-    show_item(r.place as u64);
-    show_item(r.bytes as u64);
-    io::write_all(1, b"\n");
-    show_hex(part_of(&room, 0, r.bytes));
+    println!(rt; "R {} {} {}", r.number, r.place, r.bytes)?;
+    show_hex(rt, part_of(&room, 0, r.bytes))
 }

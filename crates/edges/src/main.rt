@@ -3,58 +3,61 @@
 // each answer. tools/edge_cases.py makes the table and says what document 01 has for each row.
 #![tactic(auto)]
 
-ghost use Rattle.std.specs.Prelude.{◌+◌, ◌<◌, ◌≤◌, length};
+ghost use Rattle.std.specs.Prelude.{◌+◌, ◌<◌, ◌≤◌, length, IfOk};
 
 use limits::{Decisions, Entry, Limits, Side};
 use lines::{show_answers, show_result};
 use reading::{number, part_of};
 use run::{Owned, run_owned};
-use tables::{at_most, behind, mixed, show_item, sum_of_bytes, sum_of_numbers};
+use std::io;
+use tables::{at_most, behind, mixed, read_full, sum_of_bytes, sum_of_numbers};
 
 // How long each memory is; the list has Owned::HELD places.
 const NUMBERS: usize = 32010;
 
 const BYTES: usize = 16400;
 
-fn main() {
+fn main(rt: HostRuntime) -> io::Result<()> {
     let mut input = [0u8; 65536];
-    let n = io::read_full(0, &mut input);
-    show_all(&input[..n]);
+    let n = read_full(&mut rt.stdin(), &mut input)?;
+    show_all(&rt, &input[..n])
 }
 
-fn show_all(input: &[u8])
+fn show_all(rt: &impl Print, input: &[u8]) -> io::Result<()>
     requires { length input.now ≤ 65536 }
 {
     let mut p: usize = 0;
     while p < input.len() {
-        p = show_row(input, p);
+        p = show_row(rt, input, p)?;
     }
+    Ok(())
 }
 
 // One row: its label, its sizes and fuel (ten bytes), its book and its question. The answer is the place behind it.
-fn show_row(input: &[u8], p: usize) -> usize
+fn show_row(rt: &impl Print, input: &[u8], p: usize) -> io::Result<usize>
     requires { (p < length input.now) × (length input.now ≤ 65536) }
-    ensures { p < result }
+    ensures { IfOk result (λ end. p < end) }
 {
     let s = behind(input, p);
     let q = behind(input, s + 10);
     let end = behind(input, q);
-    io::write_all(1, part_of(input, p + 2, s));
+    rt.write_all(part_of(input, p + 2, s))?;
     show_run(
+        rt,
         part_of(input, s, s + 10),
         part_of(input, s + 12, q),
         part_of(input, q + 2, end),
-    );
-    end
+    )?;
+    Ok(end)
 }
 
 // The run of a row over the first so many numbers, places and bytes of memory that holds marks. The ten bytes say how many, and the fuel.
-fn show_run<'a>(given: &'a [u8], book: &'a [u8], question: &'a [u8]) {
+fn show_run<'a>(rt: &impl Print, given: &'a [u8], book: &'a [u8], question: &'a [u8]) -> io::Result<()> {
     let numbers = at_most(number(given, 0), NUMBERS);
     let places = number(given, 2);
     let room = at_most(number(given, 4), BYTES);
     let fuel = (number(given, 6) * 65536 + number(given, 8)) as u32;
-    io::write_all(1, b":");
+    rt.write_all(b":")?;
     let mut nodes = [48879u16; NUMBERS];
     let mut bytes = [170u8; BYTES];
     let list = [Entry::of(7, marked()); Owned::HELD];
@@ -68,9 +71,9 @@ fn show_run<'a>(given: &'a [u8], book: &'a [u8], question: &'a [u8]) {
         fuel,
     );
     let outcome = r.outcome;
-    show_result(outcome);
+    show_result(rt, outcome)?;
     let after = r.list;
-    show_left(&nodes, after, &bytes, outcome.answers);
+    show_left(rt, &nodes, after, &bytes, outcome.answers)
 }
 
 fn sum_of_list(list: [Entry; Owned::HELD]) -> u32 {
@@ -114,17 +117,12 @@ fn number_of(side: Side) -> u32 {
 
 // What a run left: the checksums behind the numbers, then a line for each answer.
 fn show_left<'a>(
+    rt: &impl Print,
     nodes: &'a [u16; NUMBERS],
     list: [Entry; Owned::HELD],
     bytes: &'a [u8; BYTES],
     answers: usize,
-) {
-    io::write_all(1, b"; nodes");
-    show_item(sum_of_numbers(nodes) as u64);
-    io::write_all(1, b" list");
-    show_item(sum_of_list(list) as u64);
-    io::write_all(1, b" bytes");
-    show_item(sum_of_bytes(bytes) as u64);
-    io::write_all(1, b"\n");
-    show_answers(bytes, answers);
+) -> io::Result<()> {
+    println!(rt; "; nodes {} list {} bytes {}", sum_of_numbers(nodes), sum_of_list(list), sum_of_bytes(bytes))?;
+    show_answers(rt, bytes, answers)
 }

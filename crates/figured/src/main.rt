@@ -2,45 +2,48 @@
 // after it, with a checksum of all of them. tools/figure_cases.py makes the table and says what each row gives.
 #![tactic(auto)]
 
-ghost use Rattle.std.specs.Prelude.{◌+◌, ◌<◌, ◌≤◌, length};
+ghost use Rattle.std.specs.Prelude.{◌+◌, ◌<◌, ◌≤◌, length, IfOk};
 
 use figures::add_figures;
 use reading::{number, part_of};
-use tables::{at_most, behind, mixed, show_item};
+use std::io;
+use tables::{at_most, behind, mixed, read_full, show_item};
 
 // How many totals there are, lent or not.
 const TOTALS: usize = 1100;
 
-fn main() {
+fn main(rt: HostRuntime) -> io::Result<()> {
     let mut input = [0u8; 131072];
-    let n = io::read_full(0, &mut input);
-    show_all(&input[..n]);
+    let n = read_full(&mut rt.stdin(), &mut input)?;
+    show_all(&rt, &input[..n])
 }
 
-fn show_all(input: &[u8])
+fn show_all(rt: &impl Print, input: &[u8]) -> io::Result<()>
     requires { length input.now ≤ 131072 }
 {
     let mut p: usize = 0;
     while p < input.len() {
-        p = show_row(input, p);
+        p = show_row(rt, input, p)?;
     }
+    Ok(())
 }
 
 // One row: how many totals are lent and the label, the totals before, and the books. The answer is the place behind it.
-fn show_row(input: &[u8], p: usize) -> usize
+fn show_row(rt: &impl Print, input: &[u8], p: usize) -> io::Result<usize>
     requires { (p < length input.now) × (length input.now ≤ 131072) }
-    ensures { p < result }
+    ensures { IfOk result (λ end. p < end) }
 {
     let a = behind(input, p);
     let b = behind(input, a);
     let end = behind(input, b);
-    io::write_all(1, part_of(input, p + 4, a));
+    rt.write_all(part_of(input, p + 4, a))?;
     show_figures(
+        rt,
         number(input, p + 2),
         part_of(input, a + 2, b),
         part_of(input, b + 2, end),
-    );
-    end
+    )?;
+    Ok(end)
 }
 
 // The totals before: those given, four bytes each, and 7 for all others.
@@ -56,32 +59,33 @@ fn totals_of(given: &[u8]) -> [u32; TOTALS] {
     totals
 }
 
-fn show_figures<'a>(lent: usize, given: &'a [u8], books: &'a [u8]) {
+fn show_figures<'a>(
+    rt: &impl Print,
+    lent: usize,
+    given: &'a [u8],
+    books: &'a [u8],
+) -> io::Result<()> {
     let mut totals = totals_of(given);
     let length = at_most(lent, TOTALS);
     let r = add_figures(books, &mut totals[0..length]);
-    io::write_all(1, b":");
-    show_item(r.number as u64);
-    show_item(r.place as u64);
-    io::write_all(1, b";");
-    show_first(&totals);
-    io::write_all(1, b"; all");
-    show_item(sum_of(&totals) as u64);
-    io::write_all(1, b"\n");
+    print!(rt; ": {} {};", r.number, r.place)?;
+    show_first(rt, &totals)?;
+    println!(rt; "; all {}", sum_of(&totals))
 }
 
 // The first five totals.
-fn show_first(totals: &[u32; TOTALS]) {
+fn show_first(rt: &impl Print, totals: &[u32; TOTALS]) -> io::Result<()> {
     let mut f: usize = 0;
     while f < 5 {
-        show_total(totals[f]);
+        show_total(rt, totals[f])?;
         f += 1;
     }
+    Ok(())
 }
 
 // A total as an item: the cast of a parameter needs no proof of its bound.
-fn show_total(t: u32) {
-    show_item(t as u64);
+fn show_total(rt: &impl Print, t: u32) -> io::Result<()> {
+    show_item(rt, t as u64)
 }
 
 fn sum_of(totals: &[u32; TOTALS]) -> u32 {

@@ -6,6 +6,7 @@ ghost use Rattle.std.specs.Prelude.{◌≤◌};
 use limits::{Entry, Limits};
 use reading::{number, part_of};
 use run::{Outcome, Owned, run_owned};
+use std::io;
 use tables::show_item;
 
 // The room for answers that `expand` has.
@@ -13,12 +14,11 @@ const ANSWER_BYTES: usize = 16384;
 
 // What program `expand` does with its input: a two-byte book length, the book, a two-byte question length, the question, a four-byte fuel. Input that is cut short
 // or has bytes left over prints only `J`. One test sees both: where the input ends right behind the fuel, every byte of the two lengths lies in it.
-pub fn expand(input: &[u8]) {
+pub fn expand(rt: &impl Print, input: &[u8]) -> io::Result<()> {
     let q = 2 + number(input, 0);
     let f = q + 2 + number(input, q);
     if input.len() != f + 4 {
-        io::write_all(1, b"J\n");
-        return;
+        return println!(rt; "J");
     }
     let book = part_of(input, 2, q);
     let question = part_of(input, q + 2, f);
@@ -36,57 +36,62 @@ pub fn expand(input: &[u8]) {
         fuel,
     );
     let outcome = r.outcome;
-    show_answers(&bytes, outcome.answers);
-    io::write_all(1, b"R");
-    show_result(outcome);
-    io::write_all(1, b"\n");
+    show_answers(rt, &bytes, outcome.answers)?;
+    rt.write_all(b"R")?;
+    show_result(rt, outcome)?;
+    rt.write_all(b"\n")
 }
 
 // The seven numbers of a result.
-pub fn show_result(r: Outcome) {
-    show_item(r.number as u64);
-    show_item(r.place as u64);
-    show_item(r.turns as u64);
-    show_item(r.answers as u64);
-    show_item(r.nodes as u64);
-    show_item(r.choices as u64);
-    show_item(r.waiting as u64);
+pub fn show_result(rt: &impl Print, r: Outcome) -> io::Result<()> {
+    print!(rt;
+        " {} {} {} {} {} {} {}",
+        r.number,
+        r.place,
+        r.turns,
+        r.answers,
+        r.nodes,
+        r.choices,
+        r.waiting
+    )
 }
 
 // The records stand one behind the other, the first behind the version byte. Each that is counted begins inside the bytes.
-pub fn show_answers(bytes: &[u8], count: usize) {
+pub fn show_answers(rt: &impl Print, bytes: &[u8], count: usize) -> io::Result<()> {
     let end = bytes.len();
     let mut p: usize = 1;
     let mut i: usize = 0;
     while i < count {
         if end <= p {
-            return;
+            return Ok(());
         }
-        let size = show_answer(part_of(bytes, p, end));
+        let size = show_answer(rt, part_of(bytes, p, end))?;
         p = if end - p < size { end } else { p + size };
         i += 1;
     }
+    Ok(())
 }
 
 // The line of the record that the bytes begin with. The answer is its length.
-fn show_answer(record: &[u8]) -> usize {
+fn show_answer(rt: &impl Print, record: &[u8]) -> io::Result<usize> {
     let decisions = 4 + 2 * number(record, 2);
     let end = 2 + number(record, 0);
-    io::write_all(1, b"A");
-    show_numbers(record, 4, decisions);
-    io::write_all(1, b" |");
-    show_numbers(record, decisions, end);
-    io::write_all(1, b"\n");
-    end
+    rt.write_all(b"A")?;
+    show_numbers(rt, record, 4, decisions)?;
+    rt.write_all(b" |")?;
+    show_numbers(rt, record, decisions, end)?;
+    rt.write_all(b"\n")?;
+    Ok(end)
 }
 
 // The two-byte numbers from one place to another.
-fn show_numbers(bytes: &[u8], from: usize, to: usize)
+fn show_numbers(rt: &impl Print, bytes: &[u8], from: usize, to: usize) -> io::Result<()>
     requires { to ≤ 1000000 }
 {
     let mut p = from;
     while p < to {
-        show_item(number(bytes, p) as u64);
+        show_item(rt, number(bytes, p) as u64)?;
         p += 2;
     }
+    Ok(())
 }

@@ -4,31 +4,27 @@
 use limits::Limits;
 use listings::write_listing;
 use reading::part_of;
-use tables::{show_hex, show_item};
+use std::io;
+use tables::{read_full, show_hex};
 
 // The longest listing that is read; of a longer one only `J` is printed.
 const LONGEST: usize = 262143;
 
 // One byte more than the longest listing, so that a longer one is seen.
-fn main() {
+fn main(rt: HostRuntime) -> io::Result<()> {
     let mut input = [0u8; LONGEST + 1];
-    let n = io::read_full(0, &mut input);
-    show_book(&input[..n]);
+    let n = read_full(&mut rt.stdin(), &mut input)?;
+    show_book(&rt, &input[..n])
 }
 
-fn show_book(listing: &[u8]) {
+fn show_book(rt: &impl Print, listing: &[u8]) -> io::Result<()> {
     if LONGEST < listing.len() {
-        io::write_all(1, b"J\n");
-        return;
+        return println!(rt; "J");
     }
     let mut room = [0u8; Limits::BOOK];
     let w = write_listing(listing, &mut room);
-    io::write_all(1, b"R");
-    show_item(w.number as u64);
-    show_item(w.line as u64);
-    show_item(w.bytes as u64);
-    io::write_all(1, b"\n");
-    show_hex(first(&room, w.bytes));
+    println!(rt; "R {} {} {}", w.number, w.line, w.bytes)?;
+    show_hex(rt, first(&room, w.bytes))
 }
 
 // The first so many bytes: of the whole array, whose length needs no proof here.

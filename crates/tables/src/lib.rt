@@ -1,11 +1,32 @@
-// What programs over tables of cases share: the fields of a row, checksums of memory, and how numbers and bytes are printed.
+// What programs over tables of cases share: how the input is read, the fields of a row, checksums of memory, and how numbers and bytes are printed.
 #![tactic(auto)]
 
-ghost use Rattle.std.specs.Prelude.{◌≡◌, ◌+◌, ◌*◌, ◌%◌, ◌<◌, min, length};
+ghost use Rattle.std.specs.Prelude.{◌≡◌, ◌+◌, ◌*◌, ◌%◌, ◌<◌, ◌≤◌, min, length, take, IfOk};
+ghost use Rattle.std.specs.Io.KnownBytes.{Consumes, IsAtEnd};
 ghost use Rattle.reading.specs.Bytes.{big_endian};
 ghost use Rattle.tables.specs.Checksum.{mixing, checksum};
 
 use reading::{number, part_of};
+use std::io;
+use std::io::Read;
+
+// Reads until the buffer is full or the input ends: how many bytes there are. They are the next bytes of the input, and only at its end are there fewer than
+// the buffer holds.
+pub fn read_full<R: Read>(reader: &mut R, buffer: &mut [u8]) -> io::Result<usize>
+    ensures within { IfOk result (λ n. n ≤ length buffer.new) }
+    ensures bytes { IfOk result (λ n. Consumes (R.remaining reader.old) (R.remaining reader.new) (take n buffer.new)) }
+    ensures end { IfOk result (λ n. n < length buffer.new → IsAtEnd (R.remaining reader.new)) }
+{
+    let mut filled: usize = 0;
+    while filled < buffer.len() {
+        let n = reader.read(&mut buffer[filled..])?;
+        if n == 0 {
+            return Ok(filled);
+        }
+        filled += n;
+    }
+    Ok(filled)
+}
 
 // The place behind the field at p: a two-byte length, then what it counts; no further than the input goes.
 pub fn behind(input: &[u8], p: usize) -> usize
@@ -72,26 +93,26 @@ fn wide_number(v: u16) -> u32
 }
 
 // A number behind what stands before it in its line.
-pub fn show_item(n: u64) {
-    io::write_all(1, b" ");
-    io::print_decimal(1, n);
+pub fn show_item(rt: &impl Print, n: u64) -> io::Result<()> {
+    print!(rt; " {n}")
 }
 
 // Bytes in hexadecimal, 32 to a line.
-pub fn show_hex(bytes: &[u8]) {
+pub fn show_hex(rt: &impl Print, bytes: &[u8]) -> io::Result<()> {
     let mut p: usize = 0;
     while p < bytes.len() {
-        show_hex_line(part_of(bytes, p, bytes.len()));
+        show_hex_line(rt, part_of(bytes, p, bytes.len()))?;
         p = if bytes.len() - p < 32 {
             bytes.len()
         } else {
             p + 32
         };
     }
+    Ok(())
 }
 
 // The first 32 of them, or all.
-fn show_hex_line(bytes: &[u8]) {
+fn show_hex_line(rt: &impl Print, bytes: &[u8]) -> io::Result<()> {
     let mut line = [10u8; 65];
     let n = at_most(bytes.len(), 32);
     let mut i: usize = 0;
@@ -101,8 +122,8 @@ fn show_hex_line(bytes: &[u8]) {
         line[2 * i + 1] = digit(b % 16);
         i += 1;
     }
-    io::write_all(1, &line[0..2 * n]);
-    io::write_all(1, b"\n");
+    // A newline stands behind the digits, as in all that holds none.
+    rt.write_all(&line[0..2 * n + 1])
 }
 
 fn digit(d: u8) -> u8 {

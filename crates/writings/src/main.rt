@@ -2,10 +2,11 @@
 // after it. tools/writing_cases.py makes the table and says what each row gives.
 #![tactic(auto)]
 
-ghost use Rattle.std.specs.Prelude.{◌+◌, ◌<◌, ◌≤◌, length};
+ghost use Rattle.std.specs.Prelude.{◌+◌, ◌<◌, ◌≤◌, length, IfOk};
 
 use reading::{number, part_of};
-use tables::{at_most, behind, show_item, sum_of_bytes};
+use std::io;
+use tables::{at_most, behind, read_full, sum_of_bytes};
 use writer::write_book;
 
 // How long each memory is.
@@ -13,36 +14,38 @@ const NUMBERS: usize = 40000;
 
 const BYTES: usize = 32800;
 
-fn main() {
+fn main(rt: HostRuntime) -> io::Result<()> {
     let mut input = [0u8; 65536];
-    let n = io::read_full(0, &mut input);
-    show_all(&input[..n]);
+    let n = read_full(&mut rt.stdin(), &mut input)?;
+    show_all(&rt, &input[..n])
 }
 
-fn show_all(input: &[u8])
+fn show_all(rt: &impl Print, input: &[u8]) -> io::Result<()>
     requires { length input.now ≤ 65536 }
 {
     let mut p: usize = 0;
     while p < input.len() {
-        p = show_row(input, p);
+        p = show_row(rt, input, p)?;
     }
+    Ok(())
 }
 
 // One row: the room lent and its label, and the numbers of its symbols and its trees. The answer is the place behind it.
-fn show_row(input: &[u8], p: usize) -> usize
+fn show_row(rt: &impl Print, input: &[u8], p: usize) -> io::Result<usize>
     requires { (p < length input.now) × (length input.now ≤ 65536) }
-    ensures { p < result }
+    ensures { IfOk result (λ end. p < end) }
 {
     let a = behind(input, p);
     let b = behind(input, a);
     let end = behind(input, b);
-    io::write_all(1, part_of(input, p + 4, a));
+    rt.write_all(part_of(input, p + 4, a))?;
     show_writing(
+        rt,
         number(input, p + 2),
         part_of(input, a + 2, b),
         part_of(input, b + 2, end),
-    );
-    end
+    )?;
+    Ok(end)
 }
 
 // Puts one number behind those that are there, as far as there is room.
@@ -107,7 +110,12 @@ fn first(numbers: &[u16; NUMBERS], n: usize) -> &[u16]
     &all[0..n]
 }
 
-fn show_writing<'a>(room: usize, symbols: &'a [u8], trees: &'a [u8]) {
+fn show_writing<'a>(
+    rt: &impl Print,
+    room: usize,
+    symbols: &'a [u8],
+    trees: &'a [u8],
+) -> io::Result<()> {
     let mut of_symbols = [0u16; NUMBERS];
     let mut of_trees = [0u16; NUMBERS];
     let n = numbers_of(symbols, &mut of_symbols);
@@ -119,13 +127,13 @@ fn show_writing<'a>(room: usize, symbols: &'a [u8], trees: &'a [u8]) {
         first(&of_trees, m),
         &mut bytes[0..lent],
     );
-    io::write_all(1, b":");
-    show_item(w.number as u64);
-    show_item(w.row as u64);
-    show_item(w.bytes as u64);
-    io::write_all(1, b"; bytes");
-    show_item(sum_of(&bytes));
-    io::write_all(1, b"\n");
+    println!(rt;
+        ": {} {} {}; bytes {}",
+        w.number,
+        w.row,
+        w.bytes,
+        sum_of(&bytes)
+    )
 }
 
 // The checksum of the whole room, lent or not.

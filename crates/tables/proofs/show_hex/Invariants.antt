@@ -1,0 +1,7 @@
+-- What the loop of `show_hex` keeps.
+use Prim.Native.Nat.{◌-◌}
+use lib.ListN.{length}
+use Rattle.tables.proofs.show_hex.Given as goal
+
+abbrev pub decreases-loop-p : goal.decreases-loop-p
+decreases-loop-p g l = length l.bytes - l.p
