@@ -1,7 +1,6 @@
 -- `first_bad_of` meets its contract: no node before the one looked at is bad.
-use mathlib.Core.Bool.{true}
 use mathlib.Core.Path.{sym, ◌∙◌}
-use Prim.Native.Nat.{ℕ, ◌-◌}
+use Prim.Native.Nat.{ℕ}
 use native.Mathlib.Omega.{arith}
 use lib.ListN.{length-replicate}
 use Rattle.limits.specs.Sizes.{most_nodes}

@@ -1,5 +1,4 @@
 -- `mark_met` meets its contract: what is said stays so, and once a pass changes nothing it is all.
-use mathlib.Core.Bool.{false}
 use mathlib.Core.Path.{◌≡◌, refl, ◌∙◌}
 use Prim.Native.Nat.{ℕ}
 use native.Mathlib.Omega.{arith}

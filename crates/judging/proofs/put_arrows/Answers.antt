@@ -1,7 +1,6 @@
 -- `put_arrows` meets its contract: the arrows looked at so far lead to seen nodes.
 use mathlib.Core.Path.{◌≡◌, sym, ap, subst, ◌∙◌}
-use mathlib.Core.Logic.{⊎_elim}
-use Prim.Native.Nat.{ℕ, ◌+◌, ◌-◌, ◌<◌}
+use Prim.Native.Nat.{ℕ, ◌+◌, ◌<◌}
 use native.Mathlib.Omega.{arith}
 use lib.ListN.{length, get_or, set}
 use Rattle.nodes.specs.Nodes.{Node, at}
@@ -13,6 +12,7 @@ use Rattle.judging.proofs.Arrows.{nth-arrow}
 use Rattle.judging.proofs.Unseen.{not-unseen}
 use Rattle.judging.proofs.Searched.{Putting, putting_first, putting_on, putting_push, putting_last, is-unseen, stack_room}
 use Rattle.judging.proofs.put_arrows.Goals as goal
+use Rattle.judging.proofs.put_arrows.Goals.{then-is_unseen, else-is_unseen}
 
 -- src/lib.rt:205:5
 pub loop-j-init : goal.loop-j-init
@@ -126,17 +126,18 @@ loop-j-preserved c =
     ap (λ (y : Node). get_or (arrows_of y) l.j 0) node ∙ nth-arrow a.book.now a.table.now m a.from l.j
     (omega (arith, within, count, many.ensures.0)) ∙ sym c.arrow_at-to.ensures ∙ sym x.ensures.0 in (
       omega (arith, c.loop-j-test.true),
-      ⊎_elim
-          (λ w.
-          let (inside, other) = is-unseen a.used x.result l.seen (sym test.ensures ∙ w.0.taken) in
-          let (there, low, room) = stack_room a.used x.result l.invariant.1 sized c.requires.0 inside other in
-          rw (w.1, w.2, w.3)
-          (subst (λ (v : ℕ). Putting h a.from a.seen.now a.stack.now a.height (set l.seen x.result 1) (set l.stack l.top v)
-          (l.top + 1) (l.j + 1)) x.ensures.0
-          (putting_push l.invariant.1 x.result arrow within (omega (arith, inside, sized)) there room other)))
-          (λ w. rw (w.1, w.2, w.3) (putting_on l.invariant.1 x.result arrow
-          (λ lt. not-unseen a.used x.result l.seen (sym test.ensures ∙ w.0.left) (omega (arith, lt, sized)))))
-          c.if-is_unseen.branch,
+      elim c.if-is_unseen.branch [
+        | then-is_unseen w ↦
+            let (inside, other) = is-unseen a.used x.result l.seen (sym test.ensures ∙ w.if-is_unseen.true) in
+            let (there, low, room) = stack_room a.used x.result l.invariant.1 sized c.requires.0 inside other in
+            rw (w.seen-is, w.stack-is, w.top-is)
+            (subst (λ (v : ℕ). Putting h a.from a.seen.now a.stack.now a.height (set l.seen x.result 1) (set l.stack l.top v)
+            (l.top + 1) (l.j + 1)) x.ensures.0
+            (putting_push l.invariant.1 x.result arrow within (omega (arith, inside, sized)) there room other))
+        | else-is_unseen w ↦
+            rw (w.seen-is, w.stack-is, w.top-is) (putting_on l.invariant.1 x.result arrow
+            (λ lt. not-unseen a.used x.result l.seen (sym test.ensures ∙ w.if-is_unseen.false) (omega (arith, lt, sized))))
+      ],
     )
 
 -- src/lib.rt:189:1
