@@ -12,8 +12,7 @@ use Rattle.judging.proofs.Falls.{lower-returns}
 use Rattle.judging.proofs.is_on_circle.Goals as goal
 
 pub returns-then-not-leads_up : goal.returns-then-not-leads_up
-returns-then-not-leads_up c = let start = c in
-    let a = c.args in
+returns-then-not-leads_up c = let a = c.args in
     let S = symbols_in a.book.now a.table.now in
     let m = a.nodes.now in
     let h = heap_in S m a.used in
@@ -25,4 +24,4 @@ returns-then-not-leads_up c = let start = c in
     sym (lower-returns h ranks (c.requires.2 c.if-falling.true) a.n none)
 
 pub leads_back-requires : goal.leads_back-requires
-leads_back-requires c = let start = c in (c.requires.0, c.requires.1)
+leads_back-requires c = (c.requires.0, c.requires.1)

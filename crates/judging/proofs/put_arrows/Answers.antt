@@ -29,7 +29,6 @@ overflow_cast-slot c = omega (arith, c.arrows_at-many.ensures.1)
 -- src/lib.rt:210:13
 pub offset_bounds-seen-x : goal.offset_bounds-seen-x
 offset_bounds-seen-x c =
-    let start = c in
     let a = c.args in
     let l = c.loop-j in
     let S = symbols_in a.book.now a.table.now in
@@ -45,7 +44,6 @@ offset_bounds-seen-x c =
 -- src/lib.rt:210:13
 pub bounds-seen-x : goal.bounds-seen-x
 bounds-seen-x c =
-    let start = c in
     let a = c.args in
     let l = c.loop-j in
     let S = symbols_in a.book.now a.table.now in
@@ -61,7 +59,6 @@ bounds-seen-x c =
 -- src/lib.rt:211:13
 pub offset_bounds-stack-top : goal.offset_bounds-stack-top
 offset_bounds-stack-top c =
-    let start = c in
     let a = c.args in
     let l = c.loop-j in
     let S = symbols_in a.book.now a.table.now in
@@ -77,7 +74,6 @@ offset_bounds-stack-top c =
 -- src/lib.rt:211:13
 pub bounds-stack-top : goal.bounds-stack-top
 bounds-stack-top c =
-    let start = c in
     let a = c.args in
     let l = c.loop-j in
     let S = symbols_in a.book.now a.table.now in
@@ -93,7 +89,6 @@ bounds-stack-top c =
 -- src/lib.rt:212:13
 pub overflow_add-top : goal.overflow_add-top
 overflow_add-top c =
-    let start = c in
     let a = c.args in
     let l = c.loop-j in
     let S = symbols_in a.book.now a.table.now in
@@ -109,7 +104,6 @@ overflow_add-top c =
 -- src/lib.rt:205:5
 pub loop-j-preserved : goal.loop-j-preserved
 loop-j-preserved c =
-    let start = c in
     let a = c.args in
     let l = c.loop-j in
     let S = symbols_in a.book.now a.table.now in
@@ -151,7 +145,6 @@ shape_of-stack c = c.loop-j.invariant.1.same_stack
 -- src/lib.rt:189:1
 pub returns : goal.returns
 returns c =
-    let start = c in
     let a = c.args in
     let l = c.loop-j in
     let S = symbols_in a.book.now a.table.now in
