@@ -12,7 +12,7 @@ use lib.ListN.{length, get_or, set, length-set, replicate}
 use lib.Seq.{get_or-set_same, get_or-set_other}
 use Rattle.nodes.specs.Nodes.{fail, Heap, at}
 use Rattle.rewriting.proofs.Heaps.{there}
-use Rattle.rewriting.specs.Paths.{In, first, later, Arrow}
+use Rattle.rewriting.specs.Paths.{In, Arrow}
 use Rattle.accepted.specs.Accepted.{Path}
 use Rattle.accepted.specs.Faults.{arrows_of, returns}
 use Rattle.accepted.proofs.Circles.{path_end}
@@ -91,6 +91,7 @@ arrow-at (x ∷ xs) (suc j) lt = In.later (arrow-at xs j (omega arith))
 at-arrow : {x : ℕ} (xs : List ℕ) → In x xs → (j : ℕ) × (j < length xs) × (get_or xs j 0 ≡ x)
 at-arrow (x ∷ xs) In.first = (0, omega arith, refl)
 at-arrow (x ∷ xs) (In.later i) = let (j, lt, is) = at-arrow xs i in (suc j, omega arith, is)
+at-arrow [] x'' = elim x'' [ ]
 
 step : {h : Heap} {n from x : ℕ} → (from ≡ n) ⊎ Path h n from → Arrow x (at h from) → Path h n x
 step {h} {n} {from} {x} (inl q) a = Path.one {n = n} (subst (λ (y : ℕ). Arrow x (at h y)) q a)

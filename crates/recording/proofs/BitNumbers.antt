@@ -10,6 +10,7 @@ use lib.Seq.{drop-drop}
 use borrow.Author.Tests.{eq-eqb, ne_eqb}
 use Rattle.limits.specs.Sizes.{words_of_set}
 use Rattle.limits.specs.Decisions.{Decisions, word_of, words_in, words_of}
+use Rattle.limits.specs.declared.Side.{Side}
 use Rattle.limits.specs.declared.Side.TheVariants.{Open, Left, Right}
 use Rattle.machine.specs.Answers.{decision_numbers}
 use Rattle.standing.specs.Held.{Decided}
@@ -66,7 +67,7 @@ word-numbers i first n k (s ∷ ds) es e f g =
     let two : n ≡ suc (suc (2 * length ds)) = omega arith in
     let others = word-numbers (suc i) (suc (suc first)) (2 * length ds) k ds es (omega arith) refl (omega arith) in
     let right : suc first ≡ 2 * i + 1 = omega arith in
-    rw two elim s [
+    rw two elim s as (λ (x : Side). bits_from first (word_of (x ∷ ds)) (suc (suc (2 * length ds))) ++ decision_numbers k es ≡ decision_numbers i (x ∷ (ds ++ es))) [
       | Open ↦ rw (bits_open first (word_of ds) (2 * length ds)) others
       | Left ↦ rw (bits_left first (word_of ds) (2 * length ds), others, e)
       | Right ↦ rw (bits_right first (word_of ds) (2 * length ds), others, right)

@@ -13,13 +13,12 @@ use Rattle.judging.proofs.comes_back.Goals as goal
 
 -- src/lib.rt:232:9
 pub put_arrows-height-requires : goal.put_arrows-height-requires
-put_arrows-height-requires c = let start = c in let a = c.args in
+put_arrows-height-requires c = let a = c.args in
     (record { long = c.requires.0; high = c.requires.1; count = omega (arith, unseen_most a.used a.seen.now) }, c.requires.2, c.requires.3)
 
 -- src/lib.rt:233:5
 pub loop-height-init : goal.loop-height-init
 loop-height-init c =
-    let start = c in
     let a = c.args in
     let S = symbols_in a.book.now a.table.now in
     let h = heap_in S a.nodes.now a.used in
@@ -45,7 +44,6 @@ bounds-stack-height c = let l = c.loop-height in omega (arith, l.invariant.0.cou
 -- src/lib.rt:236:9
 pub put_arrows-height-requires-in-loop-height : goal.put_arrows-height-requires-in-loop-height
 put_arrows-height-requires-in-loop-height c =
-    let start = c in
     let a = c.args in
     let S = symbols_in a.book.now a.table.now in
     let h = heap_in S a.nodes.now a.used in
@@ -59,8 +57,6 @@ put_arrows-height-requires-in-loop-height c =
 -- src/lib.rt:233:5
 pub loop-height-smaller : goal.loop-height-smaller
 loop-height-smaller c =
-    let looped = c in
-    let start = c in
     let a = c.args in
     let S = symbols_in a.book.now a.table.now in
     let h = heap_in S a.nodes.now a.used in
@@ -72,8 +68,6 @@ loop-height-smaller c =
 -- src/lib.rt:233:5
 pub loop-height-preserved : goal.loop-height-preserved
 loop-height-preserved c =
-    let looped = c in
-    let start = c in
     let a = c.args in
     let S = symbols_in a.book.now a.table.now in
     let h = heap_in S a.nodes.now a.used in
@@ -100,7 +94,6 @@ offset_bounds-seen-wide c = omega (arith, c.wide.ensures.1)
 pub bounds-seen-wide : goal.bounds-seen-wide
 bounds-seen-wide c =
     let l = c.loop-height in
-    let start = c in
     omega (arith, c.wide.ensures.0, l.invariant.0.long, c.requires.2)
 
 -- src/lib.rt:220:1
@@ -114,7 +107,6 @@ shape_of-stack c = c.loop-height.invariant.4 ∙ c.put_arrows-height.ensures.sam
 -- src/lib.rt:220:1
 pub returns : goal.returns
 returns c =
-    let start = c in
     let a = c.args in
     let S = symbols_in a.book.now a.table.now in
     let h = heap_in S a.nodes.now a.used in

@@ -1,6 +1,6 @@
 -- What the loops of `comes_back` keep.
 use mathlib.Core.Path.{◌≡◌}
-use Prim.Native.Nat.{◌+◌, ◌-◌}
+use Prim.Native.Nat.{◌+◌}
 use lib.ListN.{length}
 use Rattle.symbols.specs.Table.{symbols_in}
 use Rattle.accepted.specs.Read.{heap_in}

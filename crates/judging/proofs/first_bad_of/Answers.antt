@@ -1,7 +1,6 @@
 -- `first_bad_of` meets its contract: no node before the one looked at is bad.
-use mathlib.Core.Bool.{true}
 use mathlib.Core.Path.{sym, ◌∙◌}
-use Prim.Native.Nat.{ℕ, ◌-◌}
+use Prim.Native.Nat.{ℕ}
 use native.Mathlib.Omega.{arith}
 use lib.ListN.{length-replicate}
 use Rattle.limits.specs.Sizes.{most_nodes}
@@ -17,10 +16,7 @@ pub walk_all-requires : goal.walk_all-requires
 walk_all-requires c = c.requires
 
 pub mark_met-requires : goal.mark_met-requires
-mark_met-requires c = let known = c in
-    let start = c in
-    let a = c.args in
-    let bytes = c in
+mark_met-requires c = let a = c.args in
     let zeros = length-replicate {A = ℕ} most_nodes 0 in
     (omega (arith, c.requires, zeros), c.requires, sort_byte a.book.now (λ i. omega (arith, c.type_inv.book i)) a.table.now, λ n. nothing_said most_nodes n)
 
@@ -28,9 +24,7 @@ pub none_rises-falling-requires : goal.none_rises-falling-requires
 none_rises-falling-requires c = c.requires
 
 pub loop-n-init : goal.loop-n-init
-loop-n-init c = let walked = c in
-    let start = c in
-    let a = c.args in
+loop-n-init c = let a = c.args in
     let met = c.mark_met in
     let zeros = length-replicate {A = ℕ} most_nodes 0 in (
       omega arith,
@@ -49,9 +43,7 @@ pub is_bad-requires : goal.is_bad-requires
 is_bad-requires c = let l = c.loop-n.invariant in (omega (arith, c.loop-n-test.true), l.2, l.3, l.4)
 
 pub returns-then-is_bad : goal.returns-then-is_bad
-returns-then-is_bad c = let looped = c in
-    let l = c.loop-n in
-    let start = c in
+returns-then-is_bad c = let l = c.loop-n in
     let a = c.args in
     let S = symbols_in a.book.now a.table.now in
     let m = a.nodes.now in
@@ -62,9 +54,7 @@ pub overflow_add-n : goal.overflow_add-n
 overflow_add-n c = let l = c.loop-n.invariant in omega (arith, c.loop-n-test.true, l.2)
 
 pub loop-n-preserved : goal.loop-n-preserved
-loop-n-preserved c = let looped = c in
-    let l = c.loop-n in
-    let start = c in
+loop-n-preserved c = let l = c.loop-n in
     let a = c.args in
     let S = symbols_in a.book.now a.table.now in
     let m = a.nodes.now in
@@ -74,9 +64,7 @@ loop-n-preserved c = let looped = c in
     (omega arith, i.1 ∙ on, i.2, i.3, i.4, i.5, i.6)
 
 pub returns : goal.returns
-returns c = let looped = c in
-    let l = c.loop-n in
-    let start = c in
+returns c = let l = c.loop-n in
     let a = c.args in
     let S = symbols_in a.book.now a.table.now in
     let m = a.nodes.now in

@@ -16,10 +16,8 @@ pub overflow_mul-steps : goal.overflow_mul-steps
 overflow_mul-steps c = omega (arith, c.requires.1)
 
 pub loop-steps-init : goal.loop-steps-init
-loop-steps-init c = let start = c in
-    let a = c.args in
+loop-steps-init c = let a = c.args in
     let S = symbols_in a.book.now a.table.now in
-    let kept = c in
     let twice = length-replicate {A = ℕ} (2 * most_nodes) 0 in (
       more-first S (heap_in S a.nodes.now a.used) a.met.now c.requires.3,
       c.link_all.auto.last
@@ -30,7 +28,6 @@ loop-steps-init c = let start = c in
 
 pub hand_on-at-requires : goal.hand_on-at-requires
 hand_on-at-requires c = let l = c.loop-steps in
-    let start = c in
     (omega (arith, l.invariant.0.long, c.requires.0), c.requires.1, c.requires.2, l.invariant.0.says)
 
 pub loop-steps-preserved : goal.loop-steps-preserved

@@ -9,9 +9,7 @@ use Rattle.judging.proofs.Unfit.{argument-bytes, bad-node}
 use Rattle.judging.proofs.is_bad.Goals as goal
 
 pub returns-then-is_wrong : goal.returns-then-is_wrong
-returns-then-is_wrong c = let known = c in
-    let start = c in
-    let a = c.args in
+returns-then-is_wrong c = let a = c.args in
     let S = symbols_in a.book.now a.table.now in
     let m = a.nodes.now in
     let small = argument-bytes a.book.now (λ i. omega (arith, c.type_inv.book i)) a.table.now in
@@ -19,12 +17,10 @@ returns-then-is_wrong c = let known = c in
     sym (is ∙ ap (λ (b : Bool). b || returns_to (heap_in S m a.used) a.n) (sym c.is_wrong.ensures ∙ c.if-is_wrong.true))
 
 pub is_on_circle-requires : goal.is_on_circle-requires
-is_on_circle-requires c = let start = c in (c.requires.0, c.requires.1, c.requires.3)
+is_on_circle-requires c = (c.requires.0, c.requires.1, c.requires.3)
 
 pub returns : goal.returns
-returns c = let known = c in
-    let start = c in
-    let a = c.args in
+returns c = let a = c.args in
     let S = symbols_in a.book.now a.table.now in
     let m = a.nodes.now in
     let small = argument-bytes a.book.now (λ i. omega (arith, c.type_inv.book i)) a.table.now in

@@ -1,6 +1,6 @@
 -- `is_bad_entry` meets its contract: what is left to look at is what there was at first.
 use mathlib.Core.Path.{refl, sym, ap, ◌∙◌}
-use Prim.Native.Nat.{ℕ, ◌-◌}
+use Prim.Native.Nat.{ℕ}
 use native.Mathlib.Omega.{arith}
 use lib.ListN.{get_or}
 use Rattle.accepted.specs.Faults.{some_from}

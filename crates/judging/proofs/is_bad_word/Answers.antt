@@ -12,8 +12,7 @@ returns-then-w-ne0 c = let a = c.args in
     sym (some-both 32 a.made w (λ q. c.if-w-ne0.true (ap (bit_and (bit_and w (w / 2))) (sym low_bits_lem) ∙ q)))
 
 pub returns-then-made-lt32 : goal.returns-then-made-lt32
-returns-then-made-lt32 c = let start = c in
-    let w = c.args.w in
+returns-then-made-lt32 c = let w = c.args.w in
     let none : both 32 w ≡ 0 = ap (bit_and (bit_and w (w / 2))) low_bits_lem ∙ c.if-w-ne0.false in
     sym (some-past 32 c.args.made w (omega (arith, c.ranges.w.fits)) none c.if-made-lt32.true)
 

@@ -1,7 +1,6 @@
 -- `is_on_circle` meets its contract.
 use mathlib.Core.Path.{◌≡◌, sym, ap, ◌∙◌}
 use Prim.Native.Nat.{ℕ}
-use borrow.Author.Tests.{not-true}
 use lib.ListN.{get_or}
 use Rattle.nodes.specs.Nodes.{Node}
 use Rattle.symbols.specs.Table.{symbols_in}
@@ -13,8 +12,7 @@ use Rattle.judging.proofs.Falls.{lower-returns}
 use Rattle.judging.proofs.is_on_circle.Goals as goal
 
 pub returns-then-not-leads_up : goal.returns-then-not-leads_up
-returns-then-not-leads_up c = let start = c in
-    let a = c.args in
+returns-then-not-leads_up c = let a = c.args in
     let S = symbols_in a.book.now a.table.now in
     let m = a.nodes.now in
     let h = heap_in S m a.used in
@@ -22,8 +20,8 @@ returns-then-not-leads_up c = let start = c in
     let rank : get_or ranks a.n 0 ≡ c.wide.result = sym
     (c.wide.ensures.0 ∙ c.number_of.ensures) in
     let none = ap (λ (x : Node). some_of (ranked ranks (get_or ranks a.n 0)) (arrows_of x)) (heap-at S m a.used a.n c.requires.0)
-    ∙ ap (λ (v : ℕ). some_of (ranked ranks v) (arrows_of (node_in S m a.n))) rank ∙ sym c.leads_up.ensures ∙ not-true _ c.if-not-leads_up.true-raw in
+    ∙ ap (λ (v : ℕ). some_of (ranked ranks v) (arrows_of (node_in S m a.n))) rank ∙ sym c.leads_up.ensures ∙ c.if-not-leads_up.true in
     sym (lower-returns h ranks (c.requires.2 c.if-falling.true) a.n none)
 
 pub leads_back-requires : goal.leads_back-requires
-leads_back-requires c = let start = c in (c.requires.0, c.requires.1)
+leads_back-requires c = (c.requires.0, c.requires.1)

@@ -5,5 +5,4 @@ use Rattle.judging.proofs.Searched.{none_seen}
 use Rattle.judging.proofs.leads_back.Goals as goal
 
 pub comes_back-requires : goal.comes_back-requires
-comes_back-requires c = let start = c in
-    (omega (arith, c.requires.1), omega (arith, c.requires.1), c.requires.0, c.requires.1, none_seen most_nodes)
+comes_back-requires c = (omega (arith, c.requires.1), omega (arith, c.requires.1), c.requires.0, c.requires.1, none_seen most_nodes)

@@ -1,5 +1,4 @@
 -- `mark_met` meets its contract: what is said stays so, and once a pass changes nothing it is all.
-use mathlib.Core.Bool.{false}
 use mathlib.Core.Path.{◌≡◌, refl, ◌∙◌}
 use Prim.Native.Nat.{ℕ}
 use native.Mathlib.Omega.{arith}
@@ -16,7 +15,6 @@ loop-again-init c = (refl, c.hand_all.ensures.says, λ q. absurd (let z : ◌≡
 
 pub met_pass-again-requires : goal.met_pass-again-requires
 met_pass-again-requires c = let l = c.loop-again in
-    let start = c in
     (omega (arith, l.invariant.0, c.hand_all.ensures.long, c.requires.0), c.requires.1, c.requires.2, l.invariant.1)
 
 pub loop-again-smaller : goal.loop-again-smaller
@@ -34,8 +32,7 @@ pub shape_of-met : goal.shape_of-met
 shape_of-met c = c.loop-again.invariant.0 ∙ c.hand_all.ensures.long
 
 pub returns : goal.returns
-returns c = let start = c in
-    let a = c.args in
+returns c = let a = c.args in
     let l = c.loop-again in
     let S = symbols_in a.book.now a.table.now in
     all-met S c.requires.2 (heap_in S a.nodes.now a.used) l.met l.invariant.1 (l.invariant.2 c.loop-again-test.false)

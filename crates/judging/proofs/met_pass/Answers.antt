@@ -15,7 +15,6 @@ use Rattle.judging.proofs.met_pass.Goals as goal
 -- src/lib.rt:165:5
 pub loop-n-init : goal.loop-n-init
 loop-n-init c =
-    let start = c in
     let a = c.args in
     let S = symbols_in a.book.now a.table.now in
     let h = heap_in S a.nodes.now a.used in
@@ -41,7 +40,6 @@ bounds-met-n c = let l = c.loop-n in omega
 -- src/lib.rt:169:13
 pub offset_bounds-met-n-then-new-met : goal.offset_bounds-met-n-then-new-met
 offset_bounds-met-n-then-new-met c =
-    let looped = c in
     omega (arith, c.loop-n.invariant.0, c.requires.1)
 
 -- src/lib.rt:169:13
@@ -52,7 +50,6 @@ bounds-met-n-then-new-met c = let l = c.loop-n in omega
 -- src/lib.rt:165:5
 pub loop-n-preserved-then-new-met : goal.loop-n-preserved-then-new-met
 loop-n-preserved-then-new-met c =
-    let start = c in
     let a = c.args in
     let l = c.loop-n in
     let S = symbols_in a.book.now a.table.now in
@@ -68,7 +65,6 @@ loop-n-preserved-then-new-met c =
 -- src/lib.rt:165:5
 pub loop-n-preserved : goal.loop-n-preserved
 loop-n-preserved c =
-    let start = c in
     let a = c.args in
     let l = c.loop-n in
     let S = symbols_in a.book.now a.table.now in

@@ -1,5 +1,5 @@
 -- What the loops of `met_pass` keep.
-use Prim.Native.Nat.{◌-◌, ◌≤◌}
+use Prim.Native.Nat.{◌≤◌}
 use Rattle.symbols.specs.Table.{symbols_in}
 use Rattle.accepted.specs.Read.{heap_in}
 use Rattle.judging.proofs.Meeting.{Meeting}

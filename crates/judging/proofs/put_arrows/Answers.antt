@@ -1,7 +1,6 @@
 -- `put_arrows` meets its contract: the arrows looked at so far lead to seen nodes.
 use mathlib.Core.Path.{◌≡◌, sym, ap, subst, ◌∙◌}
-use mathlib.Core.Logic.{⊎_elim}
-use Prim.Native.Nat.{ℕ, ◌+◌, ◌-◌, ◌<◌}
+use Prim.Native.Nat.{ℕ, ◌+◌, ◌<◌}
 use native.Mathlib.Omega.{arith}
 use lib.ListN.{length, get_or, set}
 use Rattle.nodes.specs.Nodes.{Node, at}
@@ -13,6 +12,7 @@ use Rattle.judging.proofs.Arrows.{nth-arrow}
 use Rattle.judging.proofs.Unseen.{not-unseen}
 use Rattle.judging.proofs.Searched.{Putting, putting_first, putting_on, putting_push, putting_last, is-unseen, stack_room}
 use Rattle.judging.proofs.put_arrows.Goals as goal
+use Rattle.judging.proofs.put_arrows.Goals.{then-is_unseen, else-is_unseen}
 
 -- src/lib.rt:205:5
 pub loop-j-init : goal.loop-j-init
@@ -29,7 +29,6 @@ overflow_cast-slot c = omega (arith, c.arrows_at-many.ensures.1)
 -- src/lib.rt:210:13
 pub offset_bounds-seen-x : goal.offset_bounds-seen-x
 offset_bounds-seen-x c =
-    let start = c in
     let a = c.args in
     let l = c.loop-j in
     let S = symbols_in a.book.now a.table.now in
@@ -45,7 +44,6 @@ offset_bounds-seen-x c =
 -- src/lib.rt:210:13
 pub bounds-seen-x : goal.bounds-seen-x
 bounds-seen-x c =
-    let start = c in
     let a = c.args in
     let l = c.loop-j in
     let S = symbols_in a.book.now a.table.now in
@@ -61,7 +59,6 @@ bounds-seen-x c =
 -- src/lib.rt:211:13
 pub offset_bounds-stack-top : goal.offset_bounds-stack-top
 offset_bounds-stack-top c =
-    let start = c in
     let a = c.args in
     let l = c.loop-j in
     let S = symbols_in a.book.now a.table.now in
@@ -77,7 +74,6 @@ offset_bounds-stack-top c =
 -- src/lib.rt:211:13
 pub bounds-stack-top : goal.bounds-stack-top
 bounds-stack-top c =
-    let start = c in
     let a = c.args in
     let l = c.loop-j in
     let S = symbols_in a.book.now a.table.now in
@@ -93,7 +89,6 @@ bounds-stack-top c =
 -- src/lib.rt:212:13
 pub overflow_add-top : goal.overflow_add-top
 overflow_add-top c =
-    let start = c in
     let a = c.args in
     let l = c.loop-j in
     let S = symbols_in a.book.now a.table.now in
@@ -109,7 +104,6 @@ overflow_add-top c =
 -- src/lib.rt:205:5
 pub loop-j-preserved : goal.loop-j-preserved
 loop-j-preserved c =
-    let start = c in
     let a = c.args in
     let l = c.loop-j in
     let S = symbols_in a.book.now a.table.now in
@@ -126,17 +120,18 @@ loop-j-preserved c =
     ap (λ (y : Node). get_or (arrows_of y) l.j 0) node ∙ nth-arrow a.book.now a.table.now m a.from l.j
     (omega (arith, within, count, many.ensures.0)) ∙ sym c.arrow_at-to.ensures ∙ sym x.ensures.0 in (
       omega (arith, c.loop-j-test.true),
-      ⊎_elim
-          (λ w.
-          let (inside, other) = is-unseen a.used x.result l.seen (sym test.ensures ∙ w.0.taken) in
-          let (there, low, room) = stack_room a.used x.result l.invariant.1 sized c.requires.0 inside other in
-          rw (w.1, w.2, w.3)
-          (subst (λ (v : ℕ). Putting h a.from a.seen.now a.stack.now a.height (set l.seen x.result 1) (set l.stack l.top v)
-          (l.top + 1) (l.j + 1)) x.ensures.0
-          (putting_push l.invariant.1 x.result arrow within (omega (arith, inside, sized)) there room other)))
-          (λ w. rw (w.1, w.2, w.3) (putting_on l.invariant.1 x.result arrow
-          (λ lt. not-unseen a.used x.result l.seen (sym test.ensures ∙ w.0.left) (omega (arith, lt, sized)))))
-          c.if-is_unseen.branch,
+      elim c.if-is_unseen.branch [
+        | then-is_unseen w ↦
+            let (inside, other) = is-unseen a.used x.result l.seen (sym test.ensures ∙ w.if-is_unseen.true) in
+            let (there, low, room) = stack_room a.used x.result l.invariant.1 sized c.requires.0 inside other in
+            rw (w.seen-is, w.stack-is, w.top-is)
+            (subst (λ (v : ℕ). Putting h a.from a.seen.now a.stack.now a.height (set l.seen x.result 1) (set l.stack l.top v)
+            (l.top + 1) (l.j + 1)) x.ensures.0
+            (putting_push l.invariant.1 x.result arrow within (omega (arith, inside, sized)) there room other))
+        | else-is_unseen w ↦
+            rw (w.seen-is, w.stack-is, w.top-is) (putting_on l.invariant.1 x.result arrow
+            (λ lt. not-unseen a.used x.result l.seen (sym test.ensures ∙ w.if-is_unseen.false) (omega (arith, lt, sized))))
+      ],
     )
 
 -- src/lib.rt:189:1
@@ -150,7 +145,6 @@ shape_of-stack c = c.loop-j.invariant.1.same_stack
 -- src/lib.rt:189:1
 pub returns : goal.returns
 returns c =
-    let start = c in
     let a = c.args in
     let l = c.loop-j in
     let S = symbols_in a.book.now a.table.now in

@@ -11,8 +11,7 @@ use Rattle.judging.proofs.Meeting.{more-first, more_mark}
 use Rattle.judging.proofs.say.Goals as goal
 
 pub returns-then-new-met : goal.returns-then-new-met
-returns-then-new-met c = let start = c in
-    let a = c.args in
+returns-then-new-met c = let a = c.args in
     let S = symbols_in a.book.now a.table.now in
     let m = a.nodes.now in
     let h = heap_in S m a.used in

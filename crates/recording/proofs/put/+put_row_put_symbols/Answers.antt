@@ -20,7 +20,6 @@ put_row-returns-then-arity-j t c =
 
 pub put_row-returns : goal.put_row-returns
 put_row-returns t c =
-    let found = c in
     let a = c.args in
     let one = c.put_symbols-q in
     let others = c.put_row in
@@ -45,8 +44,6 @@ put_symbols-returns-then-kind_at-ne-APPLY t c =
 
 pub put_symbols-returns : goal.put_symbols-returns
 put_symbols-returns t c =
-    let named = c in
-    let met = c in
     let a = c.args in
     let node = c.follow-n in
     let one = c.put_two-q in

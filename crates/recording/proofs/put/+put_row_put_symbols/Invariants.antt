@@ -1,5 +1,4 @@
 -- What the loops of `+put_row_put_symbols` keep.
-use Rattle.nodes.specs.Nodes.{arguments}
 use Prim.Native.Nat.{◌+◌, ◌-◌, ◌*◌}
 use Rattle.recording.proofs.put.+put_row_put_symbols.Given as goal
 

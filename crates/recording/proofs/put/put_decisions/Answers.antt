@@ -1,6 +1,5 @@
 -- `put_decisions` meets its contract: after i turns the numbers of the first i words' choices stand there. The measure is how many words are left.
 use mathlib.Core.Path.{refl}
-use Prim.Native.Nat.{◌-◌}
 use native.Mathlib.Omega.{arith}
 use Rattle.machine.specs.Answers.{decision_numbers}
 use Rattle.standing.proofs.DecidedNumbers.{numbers-count}

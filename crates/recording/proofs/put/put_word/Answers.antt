@@ -1,11 +1,11 @@
 -- `put_word` meets its contract: the numbers of the lowest bits stand there, and w has the bits that are left. The measure is how many those are.
-use mathlib.Core.Logic.{⊎_elim}
 use mathlib.Core.Path.{◌≡◌, refl, ap, ◌∙◌}
 use native.Mathlib.Omega.{arith}
 use Rattle.recording.specs.RecordContracts.{bits_from}
 use Rattle.recording.proofs.RowBegun.{begun-none, begun-same, begun-one, begun_all}
 use Rattle.recording.proofs.BitNumbers.{bits_none, next-set, next_unset}
 use Rattle.recording.proofs.put.put_word.Goals as goal
+use Rattle.recording.proofs.put.put_word.Goals.{then-w-eq1, else-w-eq1}
 
 pub loop-left-init : goal.loop-left-init
 loop-left-init c =
@@ -25,11 +25,16 @@ loop-left-preserved c =
     let some_left = c.loop-left-test.true in (
       omega arith,
       omega arith,
-      ⊎_elim (λ w. rw w.5 (omega (arith, w.2.kept.0))) (λ w. rw w.1 inv.2) c.if-w-eq1.branch,
-      λ fits. ⊎_elim
-          (λ w. rw (w.5, w.6) (begun-one (inv.3 fits) loop.i _ _ _ (next-set loop.i loop.w loop.left some_left w.0.taken) w.2.ensures))
-          (λ w. rw (w.1, w.2) (begun-same (inv.3 fits) _ (next_unset loop.i loop.w loop.left some_left w.0.left)))
-          c.if-w-eq1.branch,
+      elim c.if-w-eq1.branch [
+        | then-w-eq1 w ↦ omega (arith, w.bytes-is, w.put_two-p.auto.bytes)
+        | else-w-eq1 w ↦ rw w.bytes-is inv.2
+      ],
+      λ fits. elim c.if-w-eq1.branch [
+        | then-w-eq1 w ↦
+            rw (w.bytes-is, w.p-is) (begun-one (inv.3 fits) loop.i _ _ _ (next-set loop.i loop.w loop.left some_left w.if-w-eq1.true) w.put_two-p.ensures)
+        | else-w-eq1 w ↦
+            rw (w.bytes-is, w.p-is) (begun-same (inv.3 fits) _ (next_unset loop.i loop.w loop.left some_left w.if-w-eq1.false))
+      ],
     )
 
 pub returns : goal.returns

@@ -1,6 +1,5 @@
 -- `record_answer` meets its contract: length, question's number, symbol count, symbols and decisions stand one behind the other, and are the record.
 use mathlib.Core.List.{◌∷◌, ◌++◌}
-use mathlib.Core.Logic.{⊎_elim}
 use mathlib.Core.Path.{◌≡◌, refl, sym, ap, ◌∙◌}
 use Prim.Native.Nat.{suc, ◌+◌, ◌*◌, ◌≤◌}
 use native.Mathlib.Omega.{arith}
@@ -15,32 +14,21 @@ use Rattle.standing.proofs.DecidedNumbers.{numbers-count}
 use Rattle.recording.proofs.RowBegun.{Begun, begun-none, begun_more, begun-same, begun-one, begun-last}
 use Rattle.recording.proofs.RecordParts.{asked, unasked, ones-decided, numbers_behind, Counts, parts-counted, record_refused, record_written}
 use Rattle.recording.proofs.record.record_answer.Goals as goal
-use Rattle.recording.proofs.record.record_answer.Goals.{After-decided, Joined-row}
-
--- what is known of the functions that it calls
-abbrev claims : lts.Claims
-claims = (
-  decided-reads.Asked,
-  decided-reads.Learnt,
-  put-two-reads.Asked,
-  put-two-reads.Learnt,
-  put-symbols-reads.Asked,
-  put-symbols-reads.Learnt,
-  put-decisions-reads.Asked,
-  put-decisions-reads.Learnt,
-)
+use Rattle.recording.proofs.record.record_answer.Goals.{After-decided, Joined-row, then-row, else-row, then-row-2, else-row-2}
 
 -- the symbol count, and the question's number in a run that took a row
 own-few : (c : Joined-row) → c.if-row.own ≤ 2
-own-few c = ⊎_elim (λ w. omega (arith, w.1)) (λ w. omega (arith, w.1)) c.if-row.branch
+own-few c = elim c.if-row.branch [ then-row w ↦ omega arith | else-row w ↦ omega arith ]
 
 own-counted : (c : Joined-row)
     → let a = c.args in
     c.if-row.own ≡ suc (length (asking a.row a.question))
 own-counted c =
     let a = c.args in
-    ⊎_elim (λ w. w.1 ∙ ap (λ l. suc (length l)) (sym (asked a.row a.question w.0.taken)))
-    (λ w. w.1 ∙ ap (λ l. suc (length l)) (sym (unasked a.row a.question w.0.left))) c.if-row.branch
+    elim c.if-row.branch [
+      | then-row w ↦ w.own-is ∙ ap (λ l. suc (length l)) (sym (asked a.row a.question w.if-row.true))
+      | else-row w ↦ w.own-is ∙ ap (λ l. suc (length l)) (sym (unasked a.row a.question w.if-row.false))
+    ]
 
 -- the numbers that are counted are those of the record
 counts : (c : After-decided) (h : Heap) (sides : Decisions)
@@ -80,12 +68,11 @@ overflow_cast-numbers-2 c = omega (arith, own-few (goal.at.overflow_cast-numbers
 
 pub shape_of-bytes : goal.shape_of-bytes
 shape_of-bytes c =
-    let joined = c in
     let one = c.put_two-p in
     let two = c.put_two-p-2 in
     let three = c.put_symbols-p in
     let four = c.put_decisions in
-    let kept : length c.if-row-2.bytes ≡ length one.new.bytes = ⊎_elim (λ w. rw w.5 w.2.kept.0) (λ w. rw w.1) c.if-row-2.branch in
+    let kept : length c.if-row-2.bytes ≡ length one.new.bytes = elim c.if-row-2.branch [ then-row-2 w ↦ rw w.bytes-is w.put_two-p-then-row-2.auto.bytes | else-row-2 w ↦ rw w.bytes-is ] in
     omega (arith, four.auto.bytes, three.auto.bytes, two.auto.bytes, kept, one.auto.bytes)
 
 pub returns : goal.returns
@@ -93,10 +80,7 @@ returns c =
     let four = c.put_decisions in
     let three = c.put_symbols-p in
     let two = c.put_two-p-2 in
-    let joined = c in
     let one = c.put_two-p in
-    let tested = c in
-    let counted = c in
     let own = c.if-row.own in
     let a = c.args in
     λ h sides held means inside many few there.
@@ -108,10 +92,11 @@ returns c =
     let all = (2 * numbers) ∷ numbers_behind a.row a.question symbols sides in
     let first = begun-one (begun-none a.bytes.now a.written all (omega (arith, count.many))) (2 * numbers) _ _ _ refl one.ensures in
     let second : Begun a.bytes.now a.written all c.if-row-2.bytes c.if-row-2.p rest =
-    ⊎_elim
-    (λ w. rw (w.5, w.6) (begun-one first a.question rest _ _ (ap (λ l. l ++ rest) (asked a.row a.question w.0.taken)) w.2.ensures))
-    (λ w. rw (w.1, w.2) (begun-same first rest (ap (λ l. l ++ rest) (unasked a.row a.question w.0.left))))
-    c.if-row-2.branch in
+    elim c.if-row-2.branch [
+      | then-row-2 w ↦
+          rw (w.bytes-is, w.p-is) (begun-one first a.question rest _ _ (ap (λ l. l ++ rest) (asked a.row a.question w.if-row-2.true)) w.put_two-p-then-row-2.ensures)
+      | else-row-2 w ↦ rw (w.bytes-is, w.p-is) (begun-same first rest (ap (λ l. l ++ rest) (unasked a.row a.question w.if-row-2.false)))
+    ] in
     let third = begun-one second a.symbols _ _ _ (ap (λ k. k ∷ (symbols ++ decision_numbers 0 sides)) (sym many)) two.ensures in
     let fourth = begun_more third symbols (decision_numbers 0 sides) _ _ refl (three.ensures h held inside) in
     let last = begun-last fourth _ _ (λ fits. (refl, four.ensures sides means (omega (arith, numbers-count 0 sides)))) in
