@@ -1,7 +1,7 @@
 -- `put_decisions` meets its contract: after i turns the numbers of the first i choices stand there. The measure is how many choices are left.
 use mathlib.Core.List.{[], ◌∷◌}
 use mathlib.Core.Path.{◌≡◌, sym, ◌∙◌}
-use Prim.Native.Nat.{◌+◌, ◌*◌, ◌-◌, ◌≤◌}
+use Prim.Native.Nat.{◌+◌, ◌*◌, ◌≤◌}
 use native.Mathlib.Omega.{arith}
 use lib.ListN.{length}
 use Rattle.limits.specs.declared.Side.{Side}
@@ -49,9 +49,9 @@ loop-i-preserved c =
     let next = turned_more loop.invariant.1 in (
       omega arith,
       elim c.match-side.branch [
-      | in-Open w ↦ rw (w.bytes-is, w.p-is) (next Open (omega arith) (sym w.in-Open.is ∙ read) loop.bytes loop.p (numbers-none loop.bytes loop.p))
-      | in-Left w ↦ rw (w.bytes-is, w.p-is) (next Left (omega arith) (sym w.in-Left.is ∙ read) _ (loop.p + 2) (numbers-one loop.bytes loop.p (2 * loop.i) _ w.put_two.ensures))
-      | in-Right w ↦ rw (w.bytes-is, w.p-is) (next Right (omega arith) (sym w.in-Right.is ∙ read) _ (loop.p + 2) (numbers-one loop.bytes loop.p (2 * loop.i + 1) _ w.put_two-in-Right.ensures))
+        | in-Open w ↦ rw (w.bytes-is, w.p-is) (next Open (omega arith) (sym w.in-Open.is ∙ read) loop.bytes loop.p (numbers-none loop.bytes loop.p))
+        | in-Left w ↦ rw (w.bytes-is, w.p-is) (next Left (omega arith) (sym w.in-Left.is ∙ read) _ (loop.p + 2) (numbers-one loop.bytes loop.p (2 * loop.i) _ w.put_two.ensures))
+        | in-Right w ↦ rw (w.bytes-is, w.p-is) (next Right (omega arith) (sym w.in-Right.is ∙ read) _ (loop.p + 2) (numbers-one loop.bytes loop.p (2 * loop.i + 1) _ w.put_two-in-Right.ensures))
       ],
     )
 
