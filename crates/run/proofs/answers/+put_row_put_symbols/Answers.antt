@@ -15,7 +15,6 @@ use Rattle.run.proofs.answers.+put_row_put_symbols.Goals.{put_row-After-arrow_at
 
 pub put_row-returns-then-arity-j : goal.put_row-returns-then-arity-j
 put_row-returns-then-arity-j t c =
-    let start = c in
     let a = c.args in
     let pre = c.requires in
     λ h held. rw (one-heap held pre.1, row-end (symbols_from a.depth pre.0) (arguments (at pre.0 a.n)) a.j (omega (arith, pre.3)))
@@ -23,7 +22,6 @@ put_row-returns-then-arity-j t c =
 
 pub put_row-overflow_cast-j : goal.put_row-overflow_cast-j
 put_row-overflow_cast-j t c =
-    let start = c in
     let pre = c.requires in
     omega (arith, pre.3, few-arguments pre.1 c.args.n pre.2)
 
@@ -52,8 +50,6 @@ put_row-put_row-requires t c =
 
 pub put_row-returns : goal.put_row-returns
 put_row-returns t c =
-    let found = c in
-    let start = c in
     let a = c.args in
     let pre = c.requires in
     let next = put-row-next t (goal.at.put_row-returns t c).After-arrow_at-arrow in
@@ -73,7 +69,6 @@ put_symbols-returns-then-depth-eq0 t c =
 
 pub put_symbols-returns-then-kind_at-ne-APPLY : goal.put_symbols-returns-then-kind_at-ne-APPLY
 put_symbols-returns-then-kind_at-ne-APPLY t c =
-    let start = c in
     let a = c.args in
     let node = c.follow-n in
     λ h held. rw (none-at-others held a.arrow node.result c.requires.2 node.ensures a.depth (λ k. c.if-kind_at-ne-APPLY.true (c.kind_at.ensures ∙ k)))
@@ -99,8 +94,6 @@ put_symbols-put_two-requires t c =
 pub put_symbols-put_row-requires : goal.put_symbols-put_row-requires
 unfolding arity_by
 put_symbols-put_row-requires t c =
-    let named = c in
-    let start = c in
     let a = c.args in
     let pre = c.requires in
     let found = put-symbols-found t (goal.at.put_symbols-put_row-requires t c).Else-kind_at-ne-APPLY in
@@ -117,8 +110,6 @@ put_symbols-put_row-requires t c =
 
 pub put_symbols-returns : goal.put_symbols-returns
 put_symbols-returns t c =
-    let named = c in
-    let start = c in
     let a = c.args in
     let pre = c.requires in
     let node = c.follow-n.result in

@@ -1,6 +1,5 @@
 -- What the loops of `+put_row_put_symbols` keep.
 use Prim.Native.Nat.{◌+◌, ◌-◌, ◌*◌}
-use Rattle.nodes.specs.Nodes.{arguments}
 use Rattle.run.proofs.answers.+put_row_put_symbols.Given as goal
 
 -- the depth falls from an apply to its arguments, of which there are fewer than 299, and those left fall along a row

@@ -1,8 +1,7 @@
 -- `put_decisions` meets its contract: after i turns the numbers of the first i choices stand there. The measure is how many choices are left.
 use mathlib.Core.List.{[], ◌∷◌}
-use mathlib.Core.Logic.{⊎_elim}
 use mathlib.Core.Path.{◌≡◌, sym, ◌∙◌}
-use Prim.Native.Nat.{◌+◌, ◌*◌, ◌-◌, ◌≤◌}
+use Prim.Native.Nat.{◌+◌, ◌*◌, ◌≤◌}
 use native.Mathlib.Omega.{arith}
 use lib.ListN.{length}
 use Rattle.limits.specs.declared.Side.{Side}
@@ -11,7 +10,7 @@ use Rattle.machine.specs.Answers.{decision_numbers}
 use Rattle.standing.proofs.Behind.{numbers-none, numbers-one}
 use Rattle.standing.proofs.DecidedNumbers.{turned-length, turned-room, turned_more, turned-all}
 use Rattle.run.proofs.answers.put_decisions.Goals as goal
-use Rattle.run.proofs.answers.put_decisions.Goals.{After-side}
+use Rattle.run.proofs.answers.put_decisions.Goals.{After-side, in-Open, in-Left, in-Right}
 
 -- there is room for its number, if it has one
 room : (c : After-side) (s : Side) → c.side.result ≡ s
@@ -22,7 +21,6 @@ room c s told = turned-room c.loop-i.invariant.1 s (omega arith) (sym told ∙ c
 pub loop-i-init : goal.loop-i-init
 unfolding decision_numbers
 loop-i-init c =
-    let start = c in
     (omega arith, record { sides = c.requires.0; means = c.requires.1; fits = c.requires.2; there = numbers-none c.args.bytes.now c.args.from })
 
 pub put_two-requires : goal.put_two-requires
@@ -32,7 +30,6 @@ put_two-requires c = (room (goal.at.put_two-requires c).After-side Left c.in-Lef
 pub overflow_add-p : goal.overflow_add-p
 unfolding decision_numbers
 overflow_add-p c =
-    let told = c in
     omega (arith, room (goal.at.overflow_add-p c).After-side Left c.in-Left.is, turned-length c.loop-i.invariant.1)
 
 pub put_two-requires-in-Right : goal.put_two-requires-in-Right
@@ -42,7 +39,6 @@ put_two-requires-in-Right c = (room (goal.at.put_two-requires-in-Right c).After-
 pub overflow_add-p-in-Right : goal.overflow_add-p-in-Right
 unfolding decision_numbers
 overflow_add-p-in-Right c =
-    let told = c in
     omega (arith, room (goal.at.overflow_add-p-in-Right c).After-side Right c.in-Right.is, turned-length c.loop-i.invariant.1)
 
 pub loop-i-preserved : goal.loop-i-preserved
@@ -52,12 +48,11 @@ loop-i-preserved c =
     let read = c.side.ensures in
     let next = turned_more loop.invariant.1 in (
       omega arith,
-      ⊎_elim
-          (λ w. rw (w.2, w.3) (next Open (omega arith) (sym w.1.given.1 ∙ read) loop.bytes loop.p (numbers-none loop.bytes loop.p)))
-          (⊎_elim
-          (λ w. rw (w.6, w.7) (next Left (omega arith) (sym w.1.given.1 ∙ read) _ (loop.p + 2) (numbers-one loop.bytes loop.p (2 * loop.i) _ w.3.ensures)))
-          (λ w. rw (w.6, w.7) (next Right (omega arith) (sym w.1.given.1 ∙ read) _ (loop.p + 2) (numbers-one loop.bytes loop.p (2 * loop.i + 1) _ w.3.ensures))))
-          c.match-side.branch,
+      elim c.match-side.branch [
+        | in-Open w ↦ rw (w.bytes-is, w.p-is) (next Open (omega arith) (sym w.in-Open.is ∙ read) loop.bytes loop.p (numbers-none loop.bytes loop.p))
+        | in-Left w ↦ rw (w.bytes-is, w.p-is) (next Left (omega arith) (sym w.in-Left.is ∙ read) _ (loop.p + 2) (numbers-one loop.bytes loop.p (2 * loop.i) _ w.put_two.ensures))
+        | in-Right w ↦ rw (w.bytes-is, w.p-is) (next Right (omega arith) (sym w.in-Right.is ∙ read) _ (loop.p + 2) (numbers-one loop.bytes loop.p (2 * loop.i + 1) _ w.put_two-in-Right.ensures))
+      ],
     )
 
 pub shape_of-bytes : goal.shape_of-bytes

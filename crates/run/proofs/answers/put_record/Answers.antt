@@ -24,7 +24,6 @@ put_decisions-requires c =
 
 pub returns : goal.returns
 returns c =
-    let start = c in
     let a = c.args in
     let pre = c.requires in
     let row = symbols_from (suc most_depth) pre.0 a.root in
