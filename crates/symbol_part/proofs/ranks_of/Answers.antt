@@ -34,11 +34,11 @@ loop-f-preserved c =
     let its-kind = kind_there a.book.now a.at.now loop.f present c.is_operation.ensures in (
       omega arith,
       elim c.if-not-is_operation.branch [
-        then-not-is_operation w ↦
-          rw (w.ranks-is, w.seen-is) (ranked-constructor symbols loop.f here room loop.invariant.1 w.sort_of-s.result
-          (its-kind ∙ w.if-not-is_operation.true) (sort-there a.book.now a.at.now loop.f present w.sort_of-s.ensures) (omega (arith, w.sort_of-s.type_inv)))
-      | else-not-is_operation w ↦
-          rw (w.ranks-is, w.seen-is) (ranked-operation symbols loop.f here room loop.invariant.1 (its-kind ∙ w.if-not-is_operation.false))
+        | then-not-is_operation w ↦
+            rw (w.ranks-is, w.seen-is) (ranked-constructor symbols loop.f here room loop.invariant.1 w.sort_of-s.result
+            (its-kind ∙ w.if-not-is_operation.true) (sort-there a.book.now a.at.now loop.f present w.sort_of-s.ensures) (omega (arith, w.sort_of-s.type_inv)))
+        | else-not-is_operation w ↦
+            rw (w.ranks-is, w.seen-is) (ranked-operation symbols loop.f here room loop.invariant.1 (its-kind ∙ w.if-not-is_operation.false))
       ],
     )
 
