@@ -75,6 +75,7 @@ module _ (B : Book) (h : Heap) (δ : ℕ → Side) (π : ℕ → Part) (reads : 
         arrive-so (Wanted π) arrivals below _ tt (λ a b. onward (into a b (follow h x)) (λ a'. children B h into xs a' below)
         (into-wanted a b (follow h x) f ys is (known f (follow h x) v (⊑_trans le (reads_below B h δ π reads (follow-leads h x)))))
         (λ a'. children_wanted xs vs a' below applies les))
+    children_wanted (x ∷ xs) Rattle.rewriting.specs.Rewriting.no_values arrivals below applies le = elim le [ ]
 
     module _ (n : ℕ) (something : π n ≢ bot) where
       -- the operation at node n, at a place of its tree from which it hits a rule

@@ -49,6 +49,7 @@ over_none {e} (f ∷ es) there none =
     by : ltb most_expression_nodes (nodes_of f) ≡ false → (e ≡ f) ⊎ In e es → (In e es → nodes_of e ≤ most_expression_nodes) → nodes_of e ≤ most_expression_nodes
     by small (inl is) rest = rw is (ltb-false most_expression_nodes (nodes_of f) small)
     by small (inr i) rest = rest i
+over_none {e = e} [] there none = elim there [ ]
 
 in_mapped : {A C : Type 0} (f : A → C) (l : List A) (x : ℕ) (d : A) → x < length l → In (f (get_or l x d)) (map f l)
 in_mapped f [] x d low = absurd (not-suc-le-zero low)
