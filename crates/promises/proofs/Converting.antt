@@ -13,6 +13,7 @@ use seplogic.Ra.Ura.{Ura}
 use base.Logic.{SProp, ent}
 use prog.Memory.{Memory}
 use prog.Model.{Model}
+use prog.Wired.{Wired}
 use prog.Routine.{Routine}
 use types.Logic.{Logic}
 use contract.Lifetimes.{Lfts}
@@ -36,7 +37,7 @@ use Rattle.converter.specs.InCode.{after}
 use Rattle.converter.proofs.Same.{replaced}
 use Rattle.converter.specs.contracts.convert_book as code
 use Rattle.converter.proofs.convert_book.Met.{met}
-use Rattle.converter.proofs.convert_book.Symbol.{routine}
+use Rattle.converter.proofs.convert_book.Symbol as convert-symbol
 use Rattle.machine.specs.Run as Run
 use Rattle.machine.specs.Run.{Memory as LentMemory}
 use Rattle.run.specs.declared.whole.Outcome.{Outcome as CodeOutcome}
@@ -99,13 +100,13 @@ abbrev pub Promised : Claim code.ended
 Promised κs a z e = Converts a.0.now a.1.0.now (after z e.1.0.now)
 
 pub convert-keeps : {M : Type 1} {𝓤 : Ura M} (𝓛 : Logic 𝓤) (𝓜 : Model 𝓤 𝓛.H) (𝓡 : Running 𝓤 𝓛.H 𝓜)
-    → Meets 𝓛 code.signature (𝓡.run routine)
-    (closing 𝓛 code.ended (ensuring code.ended Promised M 𝓤 𝓛 𝓜.mem 𝓡.run))
-convert-keeps {𝓤 = 𝓤} 𝓛 𝓜 𝓡 =
-    weaken 𝓛 code.ended (code.clauses 𝓛 𝓜.mem 𝓡.run) (λ κs a g z e. fact 𝓤 (Promised κs a z e))
+    → Wired 𝓡.env convert-symbol.code → Meets 𝓛 code.signature (𝓡.run (𝓡.env convert-symbol.name))
+    (closing 𝓛 code.ended (ensuring code.ended Promised M 𝓤 𝓛 𝓜.mem 𝓡.returns))
+convert-keeps {𝓤 = 𝓤} 𝓛 𝓜 𝓡 wired =
+    weaken 𝓛 code.ended (code.clauses 𝓛 𝓜.mem 𝓡.returns) (λ κs a g z e. fact 𝓤 (Promised κs a z e))
     (λ κs a g z ws. fact_mono 𝓤 _ (Promised κs a z (at_exit code.ended κs a ws)) (λ contract.
     subst (Converts a.0.now a.1.0.now) (sym contract) (converts a.0.now a.1.0.now)))
-    (𝓡.run routine) (λ vs. fm→mono 𝓤 (𝓡.run routine vs) (run_framed 𝓤 𝓛.H 𝓜 𝓡 routine vs)) (met 𝓤 𝓛 𝓜 𝓡)
+    (𝓡.run (𝓡.env convert-symbol.name)) (λ vs. fm→mono 𝓤 (𝓡.run (𝓡.env convert-symbol.name) vs) (run_framed 𝓤 𝓛.H 𝓜 𝓡 (𝓡.env convert-symbol.name) vs)) (met 𝓤 𝓛 𝓜 𝓡 wired)
 
 -- ---- of two calls of `run`
 

@@ -12,6 +12,7 @@ use lib.ListN.{length, drop}
 use lib.Seq.{take_at}
 use seplogic.Ra.Ura.{Ura}
 use prog.Model.{Model}
+use prog.Wired.{Wired}
 use contract.Monad.{fact, fact_mono, fm→mono}
 use contract.Running.{Running}
 use denote.Triple.Clauses.{at_exit, closing}
@@ -124,14 +125,14 @@ abbrev pub BookMade : Claim writing.ended
 BookMade κs a z e = MakesBook (record { symbols = a.0.now; trees = a.1.0.now }) a.1.1.0.now (handed_back z e.1.1.0.now)
 
 pub write-book-keeps : {M : Type 1} {𝓤 : Ura M} (𝓛 : Logic 𝓤) (𝓜 : Model 𝓤 𝓛.H) (𝓡 : Running 𝓤 𝓛.H 𝓜)
-    → Meets 𝓛 writing.signature (𝓡.run write_symbol.routine)
-    (closing 𝓛 writing.ended (ensuring writing.ended BookMade M 𝓤 𝓛 𝓜.mem 𝓡.run))
-write-book-keeps {𝓤 = 𝓤} 𝓛 𝓜 𝓡 =
-    weaken 𝓛 writing.ended (writing.clauses 𝓛 𝓜.mem 𝓡.run) (λ κs a g z e. fact 𝓤 (BookMade κs a z e))
+    → Wired 𝓡.env write_symbol.code → Meets 𝓛 writing.signature (𝓡.run (𝓡.env write_symbol.name))
+    (closing 𝓛 writing.ended (ensuring writing.ended BookMade M 𝓤 𝓛 𝓜.mem 𝓡.returns))
+write-book-keeps {𝓤 = 𝓤} 𝓛 𝓜 𝓡 wired =
+    weaken 𝓛 writing.ended (writing.clauses 𝓛 𝓜.mem 𝓡.returns) (λ κs a g z e. fact 𝓤 (BookMade κs a z e))
     (λ κs a g z ws. fact_mono 𝓤 _ (BookMade κs a z (at_exit writing.ended κs a ws)) (λ contract.
     let rows : Rows = record { symbols = a.0.now; trees = a.1.0.now } in
     subst (MakesBook rows a.1.1.0.now) (sym contract) (makes-book rows a.1.1.0.now)))
-    (𝓡.run write_symbol.routine) (λ vs. fm→mono 𝓤 (𝓡.run write_symbol.routine vs) (run_framed 𝓤 𝓛.H 𝓜 𝓡 write_symbol.routine vs)) (written-so.met 𝓤 𝓛 𝓜 𝓡)
+    (𝓡.run (𝓡.env write_symbol.name)) (λ vs. fm→mono 𝓤 (𝓡.run (𝓡.env write_symbol.name) vs) (run_framed 𝓤 𝓛.H 𝓜 𝓡 (𝓡.env write_symbol.name) vs)) (written-so.met 𝓤 𝓛 𝓜 𝓡 wired)
 
 -- ---- the index figures
 
@@ -147,10 +148,10 @@ abbrev pub FiguresAdded : Claim adding.ended
 FiguresAdded κs a z e = AddsFigures a.0.now a.1.0.now (figured_as z e.1.0.now)
 
 pub add_figures-keeps : {M : Type 1} {𝓤 : Ura M} (𝓛 : Logic 𝓤) (𝓜 : Model 𝓤 𝓛.H) (𝓡 : Running 𝓤 𝓛.H 𝓜)
-    → Meets 𝓛 adding.signature (𝓡.run add-symbol.routine)
-    (closing 𝓛 adding.ended (ensuring adding.ended FiguresAdded M 𝓤 𝓛 𝓜.mem 𝓡.run))
-add_figures-keeps {𝓤 = 𝓤} 𝓛 𝓜 𝓡 =
-    weaken 𝓛 adding.ended (adding.clauses 𝓛 𝓜.mem 𝓡.run) (λ κs a g z e. fact 𝓤 (FiguresAdded κs a z e))
+    → Wired 𝓡.env add-symbol.code → Meets 𝓛 adding.signature (𝓡.run (𝓡.env add-symbol.name))
+    (closing 𝓛 adding.ended (ensuring adding.ended FiguresAdded M 𝓤 𝓛 𝓜.mem 𝓡.returns))
+add_figures-keeps {𝓤 = 𝓤} 𝓛 𝓜 𝓡 wired =
+    weaken 𝓛 adding.ended (adding.clauses 𝓛 𝓜.mem 𝓡.returns) (λ κs a g z e. fact 𝓤 (FiguresAdded κs a z e))
     (λ κs a g z ws. fact_mono 𝓤 _ (FiguresAdded κs a z (at_exit adding.ended κs a ws)) (λ contract.
     subst (AddsFigures a.0.now a.1.0.now) (sym contract) (adds_figures a.0.now a.1.0.now)))
-    (𝓡.run add-symbol.routine) (λ vs. fm→mono 𝓤 (𝓡.run add-symbol.routine vs) (run_framed 𝓤 𝓛.H 𝓜 𝓡 add-symbol.routine vs)) (added-so.met 𝓤 𝓛 𝓜 𝓡)
+    (𝓡.run (𝓡.env add-symbol.name)) (λ vs. fm→mono 𝓤 (𝓡.run (𝓡.env add-symbol.name) vs) (run_framed 𝓤 𝓛.H 𝓜 𝓡 (𝓡.env add-symbol.name) vs)) (added-so.met 𝓤 𝓛 𝓜 𝓡 wired)

@@ -7,6 +7,7 @@ use native.Mathlib.Omega.{arith}
 use lib.ListN.{length, take}
 use seplogic.Ra.Ura.{Ura}
 use prog.Model.{Model}
+use prog.Wired.{Wired}
 use types.Logic.{Logic}
 use contract.Monad.{fact, fact_mono, fm→mono}
 use contract.Running.{Running}
@@ -27,7 +28,7 @@ use Rattle.run.specs.declared.whole.Outcome.{Outcome as CodeOutcome}
 use Rattle.run.specs.Outcomes.{after}
 use Rattle.run.specs.contracts.run as code
 use Rattle.run.proofs.run.Met.{met}
-use Rattle.run.proofs.run.Symbol.{routine}
+use Rattle.run.proofs.run.Symbol as run-symbol
 use Rattle.run.specs.contracts.run_owned as owned
 use Rattle.run.proofs.run_owned.Met as owned-so
 use Rattle.run.proofs.run_owned.Symbol as owned-symbol
@@ -83,13 +84,13 @@ Promised κs a z e = (rules : Rules) (x : Expr) (p q : ℕ) → read_book a.0.no
 
 -- DEMAND 3, of the code: the routine `run` meets the contract that ensures what is promised, since it meets its own
 pub run-keeps : {M : Type 1} {𝓤 : Ura M} (𝓛 : Logic 𝓤) (𝓜 : Model 𝓤 𝓛.H) (𝓡 : Running 𝓤 𝓛.H 𝓜)
-    → Meets 𝓛 code.signature (𝓡.run routine)
-    (closing 𝓛 code.ended (ensuring code.ended Promised M 𝓤 𝓛 𝓜.mem 𝓡.run))
-run-keeps {𝓤 = 𝓤} 𝓛 𝓜 𝓡 =
-    weaken 𝓛 code.ended (code.clauses 𝓛 𝓜.mem 𝓡.run) (λ κs a g z e. fact 𝓤 (Promised κs a z e))
+    → Wired 𝓡.env run-symbol.code → Meets 𝓛 code.signature (𝓡.run (𝓡.env run-symbol.name))
+    (closing 𝓛 code.ended (ensuring code.ended Promised M 𝓤 𝓛 𝓜.mem 𝓡.returns))
+run-keeps {𝓤 = 𝓤} 𝓛 𝓜 𝓡 wired =
+    weaken 𝓛 code.ended (code.clauses 𝓛 𝓜.mem 𝓡.returns) (λ κs a g z e. fact 𝓤 (Promised κs a z e))
     (λ κs a g z ws. fact_mono 𝓤 _ (Promised κs a z (at_exit code.ended κs a ws)) (λ contract rules x p q.
     promises_kept a.0.now a.1.0.now a.1.1.1.1.1.0 (lent_to κs a) z (left_by κs (at_exit code.ended κs a ws)) contract))
-    (𝓡.run routine) (λ vs. fm→mono 𝓤 (𝓡.run routine vs) (run_framed 𝓤 𝓛.H 𝓜 𝓡 routine vs)) (met 𝓤 𝓛 𝓜 𝓡)
+    (𝓡.run (𝓡.env run-symbol.name)) (λ vs. fm→mono 𝓤 (𝓡.run (𝓡.env run-symbol.name) vs) (run_framed 𝓤 𝓛.H 𝓜 𝓡 (𝓡.env run-symbol.name) vs)) (met 𝓤 𝓛 𝓜 𝓡 wired)
 
 -- what is promised of a call of `run_owned`, whose list is given and handed back by value: the same
 abbrev pub PromisedOwned : Claim owned.ended
@@ -98,14 +99,14 @@ PromisedOwned κs a z e = (rules : Rules) (x : Expr) (p q : ℕ) → read_book a
 
 -- DEMAND 3, of the function that the programs call
 pub run_owned_keeps : {M : Type 1} {𝓤 : Ura M} (𝓛 : Logic 𝓤) (𝓜 : Model 𝓤 𝓛.H) (𝓡 : Running 𝓤 𝓛.H 𝓜)
-    → Meets 𝓛 owned.signature (𝓡.run owned-symbol.routine)
-    (closing 𝓛 owned.ended (ensuring owned.ended PromisedOwned M 𝓤 𝓛 𝓜.mem 𝓡.run))
-run_owned_keeps {𝓤 = 𝓤} 𝓛 𝓜 𝓡 =
-    weaken 𝓛 owned.ended (owned.clauses 𝓛 𝓜.mem 𝓡.run) (λ κs a g z e. fact 𝓤 (PromisedOwned κs a z e))
+    → Wired 𝓡.env owned-symbol.code → Meets 𝓛 owned.signature (𝓡.run (𝓡.env owned-symbol.name))
+    (closing 𝓛 owned.ended (ensuring owned.ended PromisedOwned M 𝓤 𝓛 𝓜.mem 𝓡.returns))
+run_owned_keeps {𝓤 = 𝓤} 𝓛 𝓜 𝓡 wired =
+    weaken 𝓛 owned.ended (owned.clauses 𝓛 𝓜.mem 𝓡.returns) (λ κs a g z e. fact 𝓤 (PromisedOwned κs a z e))
     (λ κs a g z ws. fact_mono 𝓤 _ (PromisedOwned κs a z (at_exit owned.ended κs a ws)) (λ contract rules x p q.
     let e = at_exit owned.ended κs a ws in
     let places = a.1.1.1.1.0 in
     let lent : Memory = record { nodes = a.1.1.0.now; list = take places a.1.1.1.0; bytes = a.1.1.1.1.1.0.now } in
     let left : Memory = record { nodes = e.1.1.0.now; list = take places z.list; bytes = e.1.1.1.1.1.0.now } in
     promises_kept a.0.now a.1.0.now a.1.1.1.1.1.1.0 lent z.outcome left contract.0))
-    (𝓡.run owned-symbol.routine) (λ vs. fm→mono 𝓤 (𝓡.run owned-symbol.routine vs) (run_framed 𝓤 𝓛.H 𝓜 𝓡 owned-symbol.routine vs)) (owned-so.met 𝓤 𝓛 𝓜 𝓡)
+    (𝓡.run (𝓡.env owned-symbol.name)) (λ vs. fm→mono 𝓤 (𝓡.run (𝓡.env owned-symbol.name) vs) (run_framed 𝓤 𝓛.H 𝓜 𝓡 (𝓡.env owned-symbol.name) vs)) (owned-so.met 𝓤 𝓛 𝓜 𝓡 wired)

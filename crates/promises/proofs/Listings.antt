@@ -11,6 +11,7 @@ use lib.ListN.{length, get_or, drop, get_or-append, length-map, length-replicate
 use lib.Seq.{take_at, drop_at}
 use seplogic.Ra.Ura.{Ura}
 use prog.Model.{Model}
+use prog.Wired.{Wired}
 use types.Logic.{Logic}
 use contract.Monad.{fact, fact_mono, fm→mono}
 use contract.Running.{Running}
@@ -183,26 +184,26 @@ abbrev pub Written : Claim writing.ended
 Written κs a z e = Writes a.0.now a.1.0.now (handed_on z e.1.0.now)
 
 pub write-listing-keeps : {M : Type 1} {𝓤 : Ura M} (𝓛 : Logic 𝓤) (𝓜 : Model 𝓤 𝓛.H) (𝓡 : Running 𝓤 𝓛.H 𝓜)
-    → Meets 𝓛 writing.signature (𝓡.run write_symbol.routine)
-    (closing 𝓛 writing.ended (ensuring writing.ended Written M 𝓤 𝓛 𝓜.mem 𝓡.run))
-write-listing-keeps {𝓤 = 𝓤} 𝓛 𝓜 𝓡 =
-    weaken 𝓛 writing.ended (writing.clauses 𝓛 𝓜.mem 𝓡.run) (λ κs a g z e. fact 𝓤 (Written κs a z e))
+    → Wired 𝓡.env write_symbol.code → Meets 𝓛 writing.signature (𝓡.run (𝓡.env write_symbol.name))
+    (closing 𝓛 writing.ended (ensuring writing.ended Written M 𝓤 𝓛 𝓜.mem 𝓡.returns))
+write-listing-keeps {𝓤 = 𝓤} 𝓛 𝓜 𝓡 wired =
+    weaken 𝓛 writing.ended (writing.clauses 𝓛 𝓜.mem 𝓡.returns) (λ κs a g z e. fact 𝓤 (Written κs a z e))
     (λ κs a g z ws. fact_mono 𝓤 _ (Written κs a z (at_exit writing.ended κs a ws)) (λ contract.
     subst (Writes a.0.now a.1.0.now) (sym contract) (writes a.0.now a.1.0.now)))
-    (𝓡.run write_symbol.routine) (λ vs. fm→mono 𝓤 (𝓡.run write_symbol.routine vs) (run_framed 𝓤 𝓛.H 𝓜 𝓡 write_symbol.routine vs)) (written-so.met 𝓤 𝓛 𝓜 𝓡)
+    (𝓡.run (𝓡.env write_symbol.name)) (λ vs. fm→mono 𝓤 (𝓡.run (𝓡.env write_symbol.name) vs) (run_framed 𝓤 𝓛.H 𝓜 𝓡 (𝓡.env write_symbol.name) vs)) (written-so.met 𝓤 𝓛 𝓜 𝓡 wired)
 
 -- of a call of `save_listing`
 abbrev pub SavedSo : Claim saving.ended
 SavedSo κs a z e = Saves a.0.now a.1.0.now (told_of z e.1.0.now)
 
 pub save_listing-keeps : {M : Type 1} {𝓤 : Ura M} (𝓛 : Logic 𝓤) (𝓜 : Model 𝓤 𝓛.H) (𝓡 : Running 𝓤 𝓛.H 𝓜)
-    → Meets 𝓛 saving.signature (𝓡.run save-symbol.routine)
-    (closing 𝓛 saving.ended (ensuring saving.ended SavedSo M 𝓤 𝓛 𝓜.mem 𝓡.run))
-save_listing-keeps {𝓤 = 𝓤} 𝓛 𝓜 𝓡 =
-    weaken 𝓛 saving.ended (saving.clauses 𝓛 𝓜.mem 𝓡.run) (λ κs a g z e. fact 𝓤 (SavedSo κs a z e))
+    → Wired 𝓡.env save-symbol.code → Meets 𝓛 saving.signature (𝓡.run (𝓡.env save-symbol.name))
+    (closing 𝓛 saving.ended (ensuring saving.ended SavedSo M 𝓤 𝓛 𝓜.mem 𝓡.returns))
+save_listing-keeps {𝓤 = 𝓤} 𝓛 𝓜 𝓡 wired =
+    weaken 𝓛 saving.ended (saving.clauses 𝓛 𝓜.mem 𝓡.returns) (λ κs a g z e. fact 𝓤 (SavedSo κs a z e))
     (λ κs a g z ws. fact_mono 𝓤 _ (SavedSo κs a z (at_exit saving.ended κs a ws)) (λ contract.
     subst (Saves a.0.now a.1.0.now) (sym contract) (saves a.0.now a.1.0.now)))
-    (𝓡.run save-symbol.routine) (λ vs. fm→mono 𝓤 (𝓡.run save-symbol.routine vs) (run_framed 𝓤 𝓛.H 𝓜 𝓡 save-symbol.routine vs)) (saved-so.met 𝓤 𝓛 𝓜 𝓡)
+    (𝓡.run (𝓡.env save-symbol.name)) (λ vs. fm→mono 𝓤 (𝓡.run (𝓡.env save-symbol.name) vs) (run_framed 𝓤 𝓛.H 𝓜 𝓡 (𝓡.env save-symbol.name) vs)) (saved-so.met 𝓤 𝓛 𝓜 𝓡 wired)
 
 -- what a run tells, one with the same book and question does
 over-book : (P : ℕ → Type 0) (fuel : ℕ) (m : Memory) {o : Outcome} {book book' question question' : List ℕ} → o ≡ run book question fuel m → book ≡ book'
@@ -220,10 +221,10 @@ TellsOf κs a z e = (listing room : List ℕ) (done : (book_from listing room).r
     (x : ℕ) → x < n → (a.1.0.now ≡ asking (n + x) → Told (IsBroader broader x) outcome) × (a.1.0.now ≡ asking (n + n + x) → Told (Above broader x) outcome)
 
 pub run-tells : {M : Type 1} {𝓤 : Ura M} (𝓛 : Logic 𝓤) (𝓜 : Model 𝓤 𝓛.H) (𝓡 : Running 𝓤 𝓛.H 𝓜)
-    → Meets 𝓛 running.signature (𝓡.run run-symbol.routine)
-    (closing 𝓛 running.ended (ensuring running.ended TellsOf M 𝓤 𝓛 𝓜.mem 𝓡.run))
-run-tells {𝓤 = 𝓤} 𝓛 𝓜 𝓡 =
-    weaken 𝓛 running.ended (running.clauses 𝓛 𝓜.mem 𝓡.run) (λ κs a g z e. fact 𝓤 (TellsOf κs a z e))
+    → Wired 𝓡.env run-symbol.code → Meets 𝓛 running.signature (𝓡.run (𝓡.env run-symbol.name))
+    (closing 𝓛 running.ended (ensuring running.ended TellsOf M 𝓤 𝓛 𝓜.mem 𝓡.returns))
+run-tells {𝓤 = 𝓤} 𝓛 𝓜 𝓡 wired =
+    weaken 𝓛 running.ended (running.clauses 𝓛 𝓜.mem 𝓡.returns) (λ κs a g z e. fact 𝓤 (TellsOf κs a z e))
     (λ κs a g z ws. fact_mono 𝓤 _ (TellsOf κs a z (at_exit running.ended κs a ws)) (λ contract listing room done book x low.
     let n = length (promised listing room done).broader in
     let night = nights listing room done in
@@ -231,4 +232,4 @@ run-tells {𝓤 = 𝓤} 𝓛 𝓜 𝓡 =
       λ asked. over-book (IsBroader (promised listing room done).broader x) fuel (lent_to κs a) contract book asked (night.first x low fuel (lent_to κs a)),
       λ asked. over-book (Above (promised listing room done).broader x) fuel (lent_to κs a) contract book asked (night.second x low fuel (lent_to κs a)),
     )))
-    (𝓡.run run-symbol.routine) (λ vs. fm→mono 𝓤 (𝓡.run run-symbol.routine vs) (run_framed 𝓤 𝓛.H 𝓜 𝓡 run-symbol.routine vs)) (run-so.met 𝓤 𝓛 𝓜 𝓡)
+    (𝓡.run (𝓡.env run-symbol.name)) (λ vs. fm→mono 𝓤 (𝓡.run (𝓡.env run-symbol.name) vs) (run_framed 𝓤 𝓛.H 𝓜 𝓡 (𝓡.env run-symbol.name) vs)) (run-so.met 𝓤 𝓛 𝓜 𝓡 wired)

@@ -54,161 +54,161 @@ use Rattle.promises.proofs.OneOutcome.{OneOutcome, OneResult, by_claim, one_valu
 use Rattle.promises.proofs.OneOutcome.{one-symbol-part, one_index, one_written, one-converted, one-listed, one-saved, one_added, one_less, one_figured, one-run, one_owned}
 
 -- crate `limits`
-pub all_open_one : OneResult all_open_lem.ended (λ M. all_open_lem.clauses)
+pub all_open_one : OneResult all_open_lem.ended (λ M 𝓤 𝓛. all_open_lem.clauses 𝓛)
 all_open_one = by_claim all_open_lem.ended (λ κs a z z' e e'. one_set z z')
 
-pub side_one : OneResult side.ended (λ M. side.clauses)
+pub side_one : OneResult side.ended (λ M 𝓤 𝓛. side.clauses 𝓛)
 side_one = by_claim side.ended (λ κs a z z' e e'. one_value)
 
-pub decide-one : OneResult decide.ended (λ M. decide.clauses)
+pub decide-one : OneResult decide.ended (λ M 𝓤 𝓛. decide.clauses 𝓛)
 decide-one = by_claim decide.ended (λ κs a z z' e e'. one_set z z')
 
-pub decided-one : OneResult decided.ended (λ M. decided.clauses)
+pub decided-one : OneResult decided.ended (λ M 𝓤 𝓛. decided.clauses 𝓛)
 decided-one = by_claim decided.ended (λ κs a z z' e e'. one_bounded)
 
-pub vacant-one : OneResult vacant.ended (λ M. vacant.clauses)
+pub vacant-one : OneResult vacant.ended (λ M 𝓤 𝓛. vacant.clauses 𝓛)
 vacant-one = by_claim vacant.ended (λ κs a z z' e e'. one_value)
 
-pub entry_of_one : OneResult entry_of.ended (λ M. entry_of.clauses)
+pub entry_of_one : OneResult entry_of.ended (λ M 𝓤 𝓛. entry_of.clauses 𝓛)
 entry_of_one = by_claim entry_of.ended (λ κs a z z' e e'. one_value)
 
-pub decisions-one : OneResult decisions.ended (λ M. decisions.clauses)
+pub decisions-one : OneResult decisions.ended (λ M 𝓤 𝓛. decisions.clauses 𝓛)
 decisions-one = by_claim decisions.ended (λ κs a z z' e e'. one_set z z')
 
 -- crate `reading`
-pub base_of_one : OneResult base-of.ended (λ M. base-of.clauses)
+pub base_of_one : OneResult base-of.ended (λ M 𝓤 𝓛. base-of.clauses 𝓛)
 base_of_one = by_claim base-of.ended (λ κs a z z' e e'. one_bounded)
 
-pub between-one : OneResult between.ended (λ M. between.clauses)
+pub between-one : OneResult between.ended (λ M 𝓤 𝓛. between.clauses 𝓛)
 between-one = by_claim between.ended (λ κs a z z' e e'. one_value)
 
-pub byte_one : OneResult byte.ended (λ M. byte.clauses)
+pub byte_one : OneResult byte.ended (λ M 𝓤 𝓛. byte.clauses 𝓛)
 byte_one = by_claim byte.ended (λ κs a z z' e e'. one_value)
 
-pub wide_byte_one : OneResult wide-byte.ended (λ M. wide-byte.clauses)
+pub wide_byte_one : OneResult wide-byte.ended (λ M 𝓤 𝓛. wide-byte.clauses 𝓛)
 wide_byte_one = by_claim wide-byte.ended (λ κs a z z' e e'. one_bounded)
 
-pub number-one : OneResult number.ended (λ M. number.clauses)
+pub number-one : OneResult number.ended (λ M 𝓤 𝓛. number.clauses 𝓛)
 number-one = by_claim number.ended (λ κs a z z' e e'. one_bounded)
 
-pub part_of_one : OneOutcome part_of.ended (λ κs z z' e e'. z.now ≡ z'.now) (λ M. part_of.clauses)
+pub part_of_one : OneOutcome part_of.ended (λ κs z z' e e'. z.now ≡ z'.now) (λ M 𝓤 𝓛. part_of.clauses 𝓛)
 part_of_one = by_claim part_of.ended (λ κs a z z' e e'. one_value)
 
-pub byte_at-one : OneResult byte_at.ended (λ M. byte_at.clauses)
+pub byte_at-one : OneResult byte_at.ended (λ M 𝓤 𝓛. byte_at.clauses 𝓛)
 byte_at-one = by_claim byte_at.ended (λ κs a z z' e e'. one_reading z z')
 
-pub length-at-one : OneResult length_at.ended (λ M. length_at.clauses)
+pub length-at-one : OneResult length_at.ended (λ M 𝓤 𝓛. length_at.clauses 𝓛)
 length-at-one = by_claim length_at.ended (λ κs a z z' e e'. one_reading z z')
 
 -- crate `symbols`
-pub is-operation-one : OneResult is-operation.ended (λ M. is-operation.clauses)
+pub is-operation-one : OneResult is-operation.ended (λ M 𝓤 𝓛. is-operation.clauses 𝓛)
 is-operation-one = by_claim is-operation.ended (λ κs a z z' e e'. one_value)
 
-pub sort_of_one : OneResult sort-of.ended (λ M. sort-of.clauses)
+pub sort_of_one : OneResult sort-of.ended (λ M 𝓤 𝓛. sort-of.clauses 𝓛)
 sort_of_one = by_claim sort-of.ended (λ κs a z z' e e'. one_value)
 
-pub arguments_of_one : OneOutcome arguments_of_lem.ended (λ κs z z' e e'. z.now ≡ z'.now) (λ M. arguments_of_lem.clauses)
+pub arguments_of_one : OneOutcome arguments_of_lem.ended (λ κs z z' e e'. z.now ≡ z'.now) (λ M 𝓤 𝓛. arguments_of_lem.clauses 𝓛)
 arguments_of_one = by_claim arguments_of_lem.ended (λ κs a z z' e e'. one_bounded)
 
-pub arity_of_one : OneResult arity-of.ended (λ M. arity-of.clauses)
+pub arity_of_one : OneResult arity-of.ended (λ M 𝓤 𝓛. arity-of.clauses 𝓛)
 arity_of_one = by_claim arity-of.ended (λ κs a z z' e e'. one_bounded)
 
 -- crate `symbol_part`
-pub read-symbol-part-one : OneResult read-symbol-part.ended (λ M. read-symbol-part.clauses)
+pub read-symbol-part-one : OneResult read-symbol-part.ended (λ M 𝓤 𝓛. read-symbol-part.clauses 𝓛)
 read-symbol-part-one = by_claim read-symbol-part.ended (λ κs a z z' e e'. one-symbol-part z z')
 
-pub symbols-read-one : OneResult symbols-read.ended (λ M. symbols-read.clauses)
+pub symbols-read-one : OneResult symbols-read.ended (λ M 𝓤 𝓛. symbols-read.clauses 𝓛)
 symbols-read-one = by_claim symbols-read.ended (λ κs a z z' e e'. one_bounded)
 
 -- crate `expressions`
-pub read-whole-one : OneResult read_whole.ended (λ M. read_whole.clauses)
+pub read-whole-one : OneResult read_whole.ended (λ M 𝓤 𝓛. read_whole.clauses 𝓛)
 read-whole-one = by_claim read_whole.ended (λ κs a z z' e e'. one_reading z z')
 
 -- crate `book`
-pub read-book-one : OneResult read-book.ended (λ M. read-book.clauses)
+pub read-book-one : OneResult read-book.ended (λ M 𝓤 𝓛. read-book.clauses 𝓛)
 read-book-one = by_claim read-book.ended (λ κs a z z' e e'. one_index z z')
 
-pub rows-read-one : OneResult rows-read.ended (λ M. rows-read.clauses)
+pub rows-read-one : OneResult rows-read.ended (λ M 𝓤 𝓛. rows-read.clauses 𝓛)
 rows-read-one = by_claim rows-read.ended (λ κs a z z' e e'. one_bounded)
 
 -- crate `question`
-pub read-question-one : OneResult read-question.ended (λ M. read-question.clauses)
+pub read-question-one : OneResult read-question.ended (λ M 𝓤 𝓛. read-question.clauses 𝓛)
 read-question-one = by_claim read-question.ended (λ κs a z z' e e'. one_reading z z')
 
 -- crate `writer`
-pub write-book-one : OneOutcome write-book.ended (λ κs z z' e e'. (z ≡ z') × (e.1.1.0.now ≡ e'.1.1.0.now)) (λ M. write-book.clauses)
+pub write-book-one : OneOutcome write-book.ended (λ κs z z' e e'. (z ≡ z') × (e.1.1.0.now ≡ e'.1.1.0.now)) (λ M 𝓤 𝓛. write-book.clauses 𝓛)
 write-book-one = by_claim write-book.ended (λ κs a z z' e e'. one_written z z' e.1.1.0.now e'.1.1.0.now)
 
 -- crate `converter`
-pub convert-book-one : OneOutcome convert-book.ended (λ κs z z' e e'. (z ≡ z') × (e.1.0.now ≡ e'.1.0.now)) (λ M. convert-book.clauses)
+pub convert-book-one : OneOutcome convert-book.ended (λ κs z z' e e'. (z ≡ z') × (e.1.0.now ≡ e'.1.0.now)) (λ M 𝓤 𝓛. convert-book.clauses 𝓛)
 convert-book-one = by_claim convert-book.ended (λ κs a z z' e e'. one-converted z z' e.1.0.now e'.1.0.now)
 
 -- crate `terms`
-pub terms_of_one : OneResult terms-of.ended (λ M. terms-of.clauses)
+pub terms_of_one : OneResult terms-of.ended (λ M 𝓤 𝓛. terms-of.clauses 𝓛)
 terms_of_one = by_claim terms-of.ended (λ κs a z z' e e'. one_bounded)
 
 -- crate `listings`
-pub write-listing-one : OneOutcome write-listing.ended (λ κs z z' e e'. (z ≡ z') × (e.1.0.now ≡ e'.1.0.now)) (λ M. write-listing.clauses)
+pub write-listing-one : OneOutcome write-listing.ended (λ κs z z' e e'. (z ≡ z') × (e.1.0.now ≡ e'.1.0.now)) (λ M 𝓤 𝓛. write-listing.clauses 𝓛)
 write-listing-one = by_claim write-listing.ended (λ κs a z z' e e'. one-listed z z' e.1.0.now e'.1.0.now)
 
 -- crate `circles`
-pub save_listing-one : OneOutcome save-listing.ended (λ κs z z' e e'. (z ≡ z') × (e.1.0.now ≡ e'.1.0.now)) (λ M. save-listing.clauses)
+pub save_listing-one : OneOutcome save-listing.ended (λ κs z z' e e'. (z ≡ z') × (e.1.0.now ≡ e'.1.0.now)) (λ M 𝓤 𝓛. save-listing.clauses 𝓛)
 save_listing-one = by_claim save-listing.ended (λ κs a z z' e e'. one-saved z z' e.1.0.now e'.1.0.now)
 
 -- crate `nodes`
-pub row-apply-one : OneResult row-apply.ended (λ M. row-apply.clauses)
+pub row-apply-one : OneResult row-apply.ended (λ M 𝓤 𝓛. row-apply.clauses 𝓛)
 row-apply-one = by_claim row-apply.ended (λ κs a z z' e e'. one-row z z')
 
-pub row-choice-one : OneResult row-choice.ended (λ M. row-choice.clauses)
+pub row-choice-one : OneResult row-choice.ended (λ M 𝓤 𝓛. row-choice.clauses 𝓛)
 row-choice-one = by_claim row-choice.ended (λ κs a z z' e e'. one-row z z')
 
-pub row-fail-one : OneResult row-fail.ended (λ M. row-fail.clauses)
+pub row-fail-one : OneResult row-fail.ended (λ M 𝓤 𝓛. row-fail.clauses 𝓛)
 row-fail-one = by_claim row-fail.ended (λ κs a z z' e e'. one-row z z')
 
-pub row-forward-one : OneResult row-forward.ended (λ M. row-forward.clauses)
+pub row-forward-one : OneResult row-forward.ended (λ M 𝓤 𝓛. row-forward.clauses 𝓛)
 row-forward-one = by_claim row-forward.ended (λ κs a z z' e e'. one-row z z')
 
-pub room_of_one : OneResult room_of.ended (λ M. room_of.clauses)
+pub room_of_one : OneResult room_of.ended (λ M 𝓤 𝓛. room_of.clauses 𝓛)
 room_of_one = by_claim room_of.ended (λ κs a z z' e e'. one_value)
 
-pub kind_at-one : OneResult kind_at.ended (λ M. kind_at.clauses)
+pub kind_at-one : OneResult kind_at.ended (λ M 𝓤 𝓛. kind_at.clauses 𝓛)
 kind_at-one = by_claim kind_at.ended (λ κs a z z' e e'. one_value)
 
-pub label_at-one : OneResult label_at.ended (λ M. label_at.clauses)
+pub label_at-one : OneResult label_at.ended (λ M 𝓤 𝓛. label_at.clauses 𝓛)
 label_at-one = by_claim label_at.ended (λ κs a z z' e e'. one_value)
 
-pub arrow-at-one : OneResult arrow-at.ended (λ M. arrow-at.clauses)
+pub arrow-at-one : OneResult arrow-at.ended (λ M 𝓤 𝓛. arrow-at.clauses 𝓛)
 arrow-at-one = by_claim arrow-at.ended (λ κs a z z' e e'. one_value)
 
-pub follow_one : OneResult follow.ended (λ M. follow.clauses)
+pub follow_one : OneResult follow.ended (λ M 𝓤 𝓛. follow.clauses 𝓛)
 follow_one = by_claim follow.ended (λ κs a z z' e e'. one_value)
 
-pub put_one : OneOutcome put.ended (λ κs z z' e e'. e.0.now ≡ e'.0.now) (λ M. put.clauses)
+pub put_one : OneOutcome put.ended (λ κs z z' e e'. e.0.now ≡ e'.0.now) (λ M 𝓤 𝓛. put.clauses 𝓛)
 put_one = by_claim put.ended (λ κs a z z' e e'. one_value)
 
-pub put-forward-one : OneOutcome put-forward.ended (λ κs z z' e e'. e.0.now ≡ e'.0.now) (λ M. put-forward.clauses)
+pub put-forward-one : OneOutcome put-forward.ended (λ κs z z' e e'. e.0.now ≡ e'.0.now) (λ M 𝓤 𝓛. put-forward.clauses 𝓛)
 put-forward-one = by_claim put-forward.ended (λ κs a z z' e e'. one_value)
 
 -- crate `pulls`
-pub pull_up-one : OneOutcome pull-up.ended (λ κs z z' e e'. (z ≡ z') × (e.0.now ≡ e'.0.now)) (λ M. pull-up.clauses)
+pub pull_up-one : OneOutcome pull-up.ended (λ κs z z' e e'. (z ≡ z') × (e.0.now ≡ e'.0.now)) (λ M 𝓤 𝓛. pull-up.clauses 𝓛)
 pull_up-one = by_claim pull-up.ended (λ κs a z z' e e' one other. (one_value one.0 other.0, one_value one.1 other.1))
 
 -- crate `tallies`
-pub tally_one : OneOutcome tally.ended (λ κs z z' e e'. (z ≡ z') × (e.1.1.0.now ≡ e'.1.1.0.now)) (λ M. tally.clauses)
+pub tally_one : OneOutcome tally.ended (λ κs z z' e e'. (z ≡ z') × (e.1.1.0.now ≡ e'.1.1.0.now)) (λ M 𝓤 𝓛. tally.clauses 𝓛)
 tally_one = by_claim tally.ended (λ κs a z z' e e'. one_added z z' e.1.1.0.now e'.1.1.0.now)
 
-pub take-back-one : OneOutcome take_back.ended (λ κs z z' e e'. e.1.1.0.now ≡ e'.1.1.0.now) (λ M. take_back.clauses)
+pub take-back-one : OneOutcome take_back.ended (λ κs z z' e e'. e.1.1.0.now ≡ e'.1.1.0.now) (λ M 𝓤 𝓛. take_back.clauses 𝓛)
 take-back-one = by_claim take_back.ended (λ κs a z z' e e'. one_less _ e.1.1.0.now e'.1.1.0.now)
 
 -- crate `figures`
-pub add_figures-one : OneOutcome add-figures.ended (λ κs z z' e e'. (z ≡ z') × (e.1.0.now ≡ e'.1.0.now)) (λ M. add-figures.clauses)
+pub add_figures-one : OneOutcome add-figures.ended (λ κs z z' e e'. (z ≡ z') × (e.1.0.now ≡ e'.1.0.now)) (λ M 𝓤 𝓛. add-figures.clauses 𝓛)
 add_figures-one = by_claim add-figures.ended (λ κs a z z' e e'. one_figured z z' e.1.0.now e'.1.0.now)
 
 -- crate `run`
-pub run-one : OneOutcome run.ended (λ κs z z' e e'. (z ≡ z') × (left_by κs e ≡ left_by κs e')) (λ M. run.clauses)
+pub run-one : OneOutcome run.ended (λ κs z z' e e'. (z ≡ z') × (left_by κs e ≡ left_by κs e')) (λ M 𝓤 𝓛. run.clauses 𝓛)
 run-one = by_claim run.ended (λ κs a z z' e e'. one-run z z' (left_by κs e) (left_by κs e'))
 
 pub run_owned_one : OneOutcome run-owned.ended
-    (λ κs z z' e e'. (z ≡ z') × (e.1.1.0.now ≡ e'.1.1.0.now) × (e.1.1.1.1.1.0.now ≡ e'.1.1.1.1.1.0.now)) (λ M. run-owned.clauses)
+    (λ κs z z' e e'. (z ≡ z') × (e.1.1.0.now ≡ e'.1.1.0.now) × (e.1.1.1.1.1.0.now ≡ e'.1.1.1.1.1.0.now)) (λ M 𝓤 𝓛. run-owned.clauses 𝓛)
 run_owned_one = by_claim run-owned.ended
     (λ κs a z z' e e'. one_owned a.1.1.1.1.0 z z' e.1.1.0.now e'.1.1.0.now e.1.1.1.1.1.0.now e'.1.1.1.1.1.0.now)
