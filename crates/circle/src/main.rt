@@ -170,7 +170,12 @@ fn show_level(rt: &impl Print, listing: &[u8], p: usize, level: usize) -> io::Re
 }
 
 // The headings of the circle, the last of which leads to the first.
-fn show_circle<'a>(rt: &impl Print, listing: &'a [u8], row: &'a [u16; HEADINGS], count: usize) -> io::Result<()>
+fn show_circle<'a>(
+    rt: &impl Print,
+    listing: &'a [u8],
+    row: &'a [u16; HEADINGS],
+    count: usize,
+) -> io::Result<()>
     requires { length listing.now ≤ 262144 }
 {
     let mut i: usize = 0;
