@@ -1,4 +1,4 @@
--- What the loops of `behind_line` keep.
+-- A newline is met, or the end.
 use Prim.Native.Nat.{◌-◌, ◌≤◌}
 use lib.ListN.{length}
 use Rattle.circle.proofs.behind_line.Given as goal

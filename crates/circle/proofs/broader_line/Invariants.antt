@@ -1,4 +1,4 @@
--- What the loops of `broader_line` keep.
+-- Each line lies behind the one before it.
 use Prim.Native.Nat.{◌-◌, ◌+◌, ◌≤◌}
 use lib.ListN.{length}
 use Rattle.circle.proofs.broader_line.Given as goal

@@ -1,4 +1,4 @@
--- What the loops of `same` keep.
+-- Two names of one length are compared byte by byte.
 use mathlib.Core.Path.{◌≡◌}
 use Prim.Native.Nat.{◌-◌}
 use lib.ListN.{length}
