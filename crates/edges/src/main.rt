@@ -52,7 +52,12 @@ fn show_row(rt: &impl Print, input: &[u8], p: usize) -> io::Result<usize>
 }
 
 // The run of a row over the first so many numbers, places and bytes of memory that holds marks. The ten bytes say how many, and the fuel.
-fn show_run<'a>(rt: &impl Print, given: &'a [u8], book: &'a [u8], question: &'a [u8]) -> io::Result<()> {
+fn show_run<'a>(
+    rt: &impl Print,
+    given: &'a [u8],
+    book: &'a [u8],
+    question: &'a [u8],
+) -> io::Result<()> {
     let numbers = at_most(number(given, 0), NUMBERS);
     let places = number(given, 2);
     let room = at_most(number(given, 4), BYTES);
@@ -123,6 +128,11 @@ fn show_left<'a>(
     bytes: &'a [u8; BYTES],
     answers: usize,
 ) -> io::Result<()> {
-    println!(rt; "; nodes {} list {} bytes {}", sum_of_numbers(nodes), sum_of_list(list), sum_of_bytes(bytes))?;
+    println!(rt;
+        "; nodes {} list {} bytes {}",
+        sum_of_numbers(nodes),
+        sum_of_list(list),
+        sum_of_bytes(bytes)
+    )?;
     show_answers(rt, bytes, answers)
 }

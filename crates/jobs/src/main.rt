@@ -57,7 +57,12 @@ fn run_job<'a>(rt: &impl Print, book: &'a [u8], input: &'a [u8], p: usize) -> io
     Ok(f + 4)
 }
 
-fn run_cleared<'a>(rt: &impl Print, book: &'a [u8], question: &'a [u8], fuel: u32) -> io::Result<()> {
+fn run_cleared<'a>(
+    rt: &impl Print,
+    book: &'a [u8],
+    question: &'a [u8],
+    fuel: u32,
+) -> io::Result<()> {
     let mut nodes = [0u16; Limits::NODES * Limits::NODE];
     let mut bytes = [0u8; ANSWER_BYTES];
     let list = [Entry::vacant(); Owned::HELD];

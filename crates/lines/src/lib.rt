@@ -46,13 +46,7 @@ pub fn expand(rt: &impl Print, input: &[u8]) -> io::Result<()> {
 pub fn show_result(rt: &impl Print, r: Outcome) -> io::Result<()> {
     print!(rt;
         " {} {} {} {} {} {} {}",
-        r.number,
-        r.place,
-        r.turns,
-        r.answers,
-        r.nodes,
-        r.choices,
-        r.waiting
+        r.number, r.place, r.turns, r.answers, r.nodes, r.choices, r.waiting
     )
 }
 
