@@ -1,4 +1,4 @@
--- What the loops of `totals_of` keep.
+-- Each total is one nearer to the last.
 use Prim.Native.Nat.{◌-◌, ◌≤◌}
 use Rattle.figured.proofs.totals_of.Given as goal
 

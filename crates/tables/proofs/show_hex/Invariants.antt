@@ -1,4 +1,4 @@
--- What the loop of `show_hex` keeps.
+-- Each line takes at least one byte off what is left.
 use Prim.Native.Nat.{◌-◌}
 use lib.ListN.{length}
 use Rattle.tables.proofs.show_hex.Given as goal

@@ -1,4 +1,4 @@
--- What the loop of `show_hex_line` keeps.
+-- Two digits for each byte, of which there are at most 32.
 use mathlib.Core.Path.{◌≡◌}
 use Prim.Native.Nat.{◌-◌}
 use lib.ListN.{length}

@@ -1,4 +1,4 @@
--- What the loops of `sum_of_numbers` keep.
+-- The numbers still to come, from the sum so far, give the checksum of all.
 use mathlib.Core.Path.{◌≡◌}
 use Prim.Native.Nat.{◌≤◌, ◌-◌}
 use lib.ListN.{length, drop}

@@ -1,4 +1,4 @@
--- What the loops of `numbers_of` keep.
+-- Each block lies behind the one before it, and no more numbers are put than there is room for.
 use Prim.Native.Nat.{◌-◌, ◌≤◌}
 use lib.ListN.{length}
 use Rattle.writings.proofs.numbers_of.Given as goal

@@ -1,4 +1,4 @@
--- What the loops of `put_block` keep.
+-- Each time is one nearer to the last, and no more numbers are put than there is room for.
 use Prim.Native.Nat.{◌-◌, ◌≤◌}
 use Rattle.writings.proofs.put_block.Given as goal
 

@@ -1,4 +1,4 @@
--- What the loops of `put_once` keep.
+-- Each number is one nearer to the last, and no more are put than there is room for.
 use Prim.Native.Nat.{◌-◌, ◌≤◌}
 use lib.ListN.{length}
 use Rattle.writings.proofs.put_once.Given as goal
