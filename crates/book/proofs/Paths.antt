@@ -10,7 +10,7 @@ use lib.Dec.{leb}
 use lib.ListN.{length, get_or, set, replicate, get_or-replicate}
 use lib.Seq.{get_or-set_same, get_or-set_other}
 use Rattle.limits.specs.Sizes.{most_variables}
-use Rattle.reading.specs.Reading.{Reading, got, refusal, ◌then◌, refuse◌at◌if◌else◌}
+use Rattle.reading.specs.Reading.{Reading, got, refusal, refuse◌at◌if◌else◌}
 use Rattle.reading.specs.Bytes.{byte_at}
 use Rattle.reading.proofs.Keeping.{then-got, then-refusal}
 use Rattle.symbols.specs.Symbols.{Symbols, constructors_of}

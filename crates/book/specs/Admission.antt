@@ -1,5 +1,5 @@
 -- Admission: what a book or a question means, or the first fault met.
-use Rattle.std.specs.Prelude.{Bool, List, [], ℕ, ltb, eqb, length}
+use Rattle.std.specs.Prelude.{List, [], ℕ, ltb, eqb, length}
 use Rattle.limits.specs.Sizes.{most_question_bytes, last_sort}
 use Rattle.reading.specs.Reading.{Reading, got, ◌then◌, refuse◌at◌if◌else◌}
 use Rattle.reading.specs.Bytes.{byte_at, length_at}

@@ -10,12 +10,11 @@ use Rattle.limits.specs.Sizes.{most_variables, last_sort}
 use Rattle.reading.specs.Reading.{Reading, got, refusal, ◌then◌}
 use Rattle.reading.specs.Bytes.{version_of}
 use Rattle.reading.specs.Answer.{keeping}
-use Rattle.reading.proofs.Keeping.{kept-got}
 use Rattle.symbols.specs.Symbols.{Symbols}
 use Rattle.expressions.specs.Expressions.{Expr}
 use Rattle.expressions.specs.ExpressionAt.{Left, ExprReader, left_of, shared_at, expr_at}
 use Rattle.expressions.specs.Bodies.{body_with}
-use Rattle.expressions.proofs.Ways.{shared-past, shared-sort, shared-within, expr-is-shared, expr_onward}
+use Rattle.expressions.proofs.Ways.{shared-within, expr-is-shared, expr_onward}
 
 -- the place behind what was read; none is behind a refusal but the end
 abbrev pub behind : ℕ → Reading ℕ → ℕ

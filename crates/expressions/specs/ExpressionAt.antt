@@ -1,6 +1,6 @@
 -- Reading an expression of the sort asked for. "At an expression: code, node count, its symbol or variable byte, sort, then its
 -- arguments or sides."
-use Rattle.std.specs.Prelude.{Bool, true, false, not, List, [], ◌∷◌, ◌++◌, ℕ, zero, suc, ◌+◌, ◌-◌, leb, ltb, eqb, length, get_or}
+use Rattle.std.specs.Prelude.{not, List, [], ◌∷◌, ◌++◌, ℕ, zero, suc, ◌+◌, ◌-◌, leb, ltb, eqb, length, get_or}
 use Rattle.limits.specs.Sizes.{most_expression_nodes, most_variables, last_sort}
 use Rattle.reading.specs.Reading.{Reading, got, refusal, ◌then◌, refuse◌at◌if◌else◌}
 use Rattle.reading.specs.Bytes.{version_of, byte_at, number_at}

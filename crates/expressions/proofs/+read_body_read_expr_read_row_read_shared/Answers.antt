@@ -1,6 +1,6 @@
 -- `read_expr`, `read_row`, `read_shared` and `read_body` meet their contracts: at whatever depth is enough, each is one level of the definition over the
 -- others; `read_shared` as many levels as shared parts stand directly in each other, whose codes it reads inward and whose bodies outward.
-use Prim.Native.Nat.{ℕ, ◌+◌, ◌-◌}
+use Prim.Native.Nat.{ℕ, ◌+◌}
 use mathlib.Core.Path.{◌≡◌, sym, ap, ◌∙◌}
 use native.Mathlib.Omega.{arith}
 use lib.ListN.{length, length-drop, get_or}

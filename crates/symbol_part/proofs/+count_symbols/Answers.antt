@@ -5,7 +5,7 @@ use Rattle.reading.specs.declared.Reading.TheVariants.{Got}
 use Rattle.reading.specs.Answer.{reading_of}
 use Rattle.symbol_part.proofs.PartWays.{SymbolKept, symbol-kept}
 use Rattle.symbol_part.proofs.CountWays.{count-ended, count-refused, count-more}
-use Prim.Native.Nat.{ℕ, ◌-◌}
+use Prim.Native.Nat.{ℕ}
 use Rattle.symbol_part.proofs.+count_symbols.Goals as goal
 use Rattle.symbol_part.proofs.+count_symbols.Goals.{After-read_symbol}
 

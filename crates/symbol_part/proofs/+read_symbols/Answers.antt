@@ -4,7 +4,7 @@ use native.Mathlib.Omega.{arith}
 use Rattle.reading.specs.declared.Reading.TheVariants.{Got}
 use Rattle.reading.specs.Answer.{reading_of}
 use Rattle.symbol_part.proofs.PartWays.{SymbolKept, symbol-kept, symbols-ended, symbols-refused, symbols-more}
-use Prim.Native.Nat.{ℕ, ◌-◌}
+use Prim.Native.Nat.{ℕ}
 use Rattle.symbol_part.proofs.+read_symbols.Goals as goal
 use Rattle.symbol_part.proofs.+read_symbols.Goals.{After-read_symbol}
 

@@ -1,5 +1,5 @@
 -- What the loops of `chain_of` keep.
-use Prim.Native.Nat.{◌-◌, ◌≤◌}
+use Prim.Native.Nat.{◌≤◌}
 use lib.ListN.{length}
 use Rattle.symbols.specs.Table.{symbols_in}
 use Rattle.symbol_part.proofs.Chains.{Chained}

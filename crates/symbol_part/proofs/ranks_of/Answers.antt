@@ -1,8 +1,7 @@
 -- `ranks_of` meets its contract. The loop's invariant: of the symbols passed the ranks stand in the array, and the constructors of each sort are counted.
 use mathlib.Core.Path.{◌∙◌}
-use Prim.Native.Nat.{◌-◌, ◌<◌, ◌≤◌}
+use Prim.Native.Nat.{◌<◌, ◌≤◌}
 use native.Mathlib.Omega.{arith}
-use borrow.Author.Tests.{not-true, not-false}
 use lib.ListN.{length}
 use Rattle.limits.specs.Sizes.{most_symbols}
 use Rattle.symbols.specs.Table.{symbols_in}

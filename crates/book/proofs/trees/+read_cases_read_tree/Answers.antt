@@ -1,6 +1,6 @@
 -- `read_cases` and `read_tree` meet their contracts: what was branched on is whatever the flags tell, and each is one level over the other.
 use borrow.Author.Rules.{rules}
-use mathlib.Core.Bool.{Bool, false}
+use mathlib.Core.Bool.{Bool}
 use mathlib.Core.List.{List, ◌∷◌, ◌++◌}
 use mathlib.Core.Path.{◌≡◌, refl, sym, ap, ap₂, subst, ◌∙◌}
 use Prim.Native.Nat.{ℕ, ◌+◌, ◌-◌, ◌≤◌}

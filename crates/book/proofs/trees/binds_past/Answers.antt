@@ -1,6 +1,6 @@
 -- `binds_past` meets its contract: what the constructors still to come say, all of them say.
 use mathlib.Core.Path.{sym, ap, ◌∙◌}
-use Prim.Native.Nat.{◌+◌, ◌-◌}
+use Prim.Native.Nat.{◌+◌}
 use native.Mathlib.Omega.{arith}
 use Rattle.book.specs.TreeAt.{binds_past}
 use Rattle.book.proofs.Constructors.{Arrives, chain_first, chain_next, past_end, past-here, past-later}

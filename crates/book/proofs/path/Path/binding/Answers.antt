@@ -1,6 +1,5 @@
 -- `Path::binding` meets its contract: after j turns the first j sorts stand behind those that were bound.
 use mathlib.Core.Path.{refl}
-use Prim.Native.Nat.{◌-◌}
 use native.Mathlib.Omega.{arith}
 use lib.Seq.{paste-zero}
 use Rattle.limits.proofs.Copies.{copy_more, copied}
