@@ -8,7 +8,7 @@ use native.Mathlib.Nat.{not-suc-le-zero}
 use native.Mathlib.Decide.{dec_lt}
 use borrow.Author.Tests.{le-leb, lt-leb, le-ltb, eq-eqb}
 use lib.Dec.{ltb}
-use lib.ListN.{length, get_or, drop, replicate, length-append}
+use lib.ListN.{length, drop, replicate, length-append}
 use Rattle.limits.specs.Sizes.{most_symbols, most_expression_nodes, most_variables, last_sort}
 use Rattle.reading.specs.Reading.{Reading, got, refusal, ◌then◌, refuse◌at◌if◌else◌}
 use Rattle.reading.specs.Bytes.{version_of, two_bytes, byte_at}

@@ -1,7 +1,7 @@
 -- What a listing's two operations reach by rewriting, as `specs/Reached.antt` says: a question that applies an operation can be what that operation's
 -- node may have, and what it can be it can reach.
 use mathlib.Core.Bool.{false}
-use mathlib.Core.Path.{◌≡◌, refl, sym, ap, ◌∙◌}
+use mathlib.Core.Path.{◌≡◌, refl, sym, ◌∙◌}
 use mathlib.Core.Logic.{◌⊎◌, inl, inr, ◌↔◌}
 use mathlib.Core.List.{[], ◌∷◌}
 use Prim.Native.Nat.{ℕ, zero, suc, ◌+◌}

@@ -1,9 +1,8 @@
 -- THE CHECK accepts exactly the accepted states.
 use mathlib.Core.Bool.{false}
 use mathlib.Core.Path.{◌≡◌, refl, sym, ap, ◌∙◌}
-use mathlib.Core.Logic.{◌≢◌}
 use mathlib.Core.List.{List, [], ◌∷◌}
-use Prim.Native.Nat.{ℕ, zero, suc, ◌-◌, ◌≤◌, ◌<◌}
+use Prim.Native.Nat.{ℕ, zero, suc, ◌≤◌, ◌<◌}
 use native.Mathlib.Decide.{ℕ_discrete, dec_lt}
 use native.Mathlib.Omega.{arith}
 use borrow.Author.Tests.{ltb-false, leb-true, leb-false, le-ltb, lt-leb}
@@ -17,7 +16,7 @@ use Rattle.rewriting.proofs.Heaps.{there, at-past, apply≢fail}
 use Rattle.rewriting.specs.Lists.{firsts}
 use Rattle.rewriting.proofs.Lists.{length-firsts, get_or_firsts}
 use Rattle.sorts.specs.Sorts.{sort_of, arguments_of}
-use Rattle.rewriting.specs.Paths.{In, first, later, Arrow, argument}
+use Rattle.rewriting.specs.Paths.{In, first, later, Arrow}
 use Rattle.meaning.proofs.Finite.{every, arrow-below}
 use Rattle.accepted.specs.Accepted.{Meets, Fits, Along, none, more, Argued, Path, AcceptedNodes}
 use Rattle.accepted.specs.Read.{node_by, node_in, heap_in}

@@ -5,7 +5,7 @@ use mathlib.Core.List.{List, [], ◌∷◌, map}
 use Prim.Native.Nat.{ℕ, zero, suc, ◌<◌}
 use native.Mathlib.Omega.{arith}
 use lib.ListN.{length}
-use Rattle.nodes.specs.Nodes.{Node, fail, forward, Heap, at}
+use Rattle.nodes.specs.Nodes.{Node, Heap, at}
 use Rattle.rewriting.specs.Rewriting.{Leads}
 use Rattle.rewriting.proofs.Heaps.{there, forward≢fail}
 use Rattle.rewriting.specs.Paths.{In, first, later}

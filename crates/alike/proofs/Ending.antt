@@ -3,10 +3,10 @@ use mathlib.Core.Path.{◌≡◌, refl, ◌∙◌}
 use mathlib.Core.List.{List}
 use Prim.Native.Nat.{ℕ, ◌<◌}
 use lib.ListN.{length}
-use Rattle.nodes.specs.Nodes.{Node, fail, forward, Heap, at}
+use Rattle.nodes.specs.Nodes.{Node, forward, Heap, at}
 use Rattle.rewriting.specs.Rewriting.{Leads}
 use Rattle.rewriting.proofs.Heaps.{grown, grown_at}
-use Rattle.rewriting.specs.Lists.{All, none, more}
+use Rattle.rewriting.specs.Lists.{All, more}
 use Rattle.rewriting.specs.Paths.{Finite, finite, target}
 use Rattle.meaning.proofs.Finite.{finite-arguments}
 use Rattle.meaning.proofs.PathsEnd.{leads-finite, finite-sides}

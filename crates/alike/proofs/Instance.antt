@@ -23,7 +23,7 @@ use Rattle.machine.specs.Turn.{Rooms}
 use Rattle.forwards.specs.Shorten.{Following, untouched}
 use Rattle.alike.specs.Asked as Asked
 use Rattle.alike.specs.Asked.{Entry, Answer}
-use Rattle.alike.specs.Walking.{Walked, walk}
+use Rattle.alike.specs.Walking.{Walked}
 use Rattle.alike.specs.Turning as Later
 use Rattle.alike.specs.Turning.{State, Turned, Ended, with_nodes, turns_by}
 use Rattle.alike.specs.AsWithRoom.{plainly}

@@ -18,7 +18,6 @@ use Rattle.rewriting.specs.Rewriting.{Value}
 use Rattle.rewriting.proofs.Steers.{Lawful}
 use Rattle.meaning.proofs.Turns.{Good}
 use Rattle.forwards.specs.Shorten.{Following}
-use Rattle.alike.specs.Walking.{walk}
 use Rattle.alike.specs.Asked.{Entry}
 use Rattle.alike.specs.Turning as Later
 use Rattle.alike.specs.Turning.{State, with_nodes, moved, dropped}

@@ -8,7 +8,7 @@ use native.Mathlib.Decide.{ℕ_discrete}
 use lib.ListN.{length}
 use Rattle.limits.specs.Sizes.{most_choices}
 use Rattle.limits.specs.Lent.{Entry as PlainEntry}
-use Rattle.nodes.specs.Nodes.{Heap, at}
+use Rattle.nodes.specs.Nodes.{Heap}
 use Rattle.machine.specs.Turn as Plain
 use Rattle.rewriting.specs.Lists.{All, none, more}
 use Rattle.rewriting.proofs.Update.{update, update_same, update_other}

@@ -12,7 +12,7 @@ use Rattle.limits.specs.declared.Side.{Side}
 use Rattle.limits.specs.declared.Side.TheVariants.{Open, Left, Right}
 use Rattle.limits.specs.Lent.{Entry as PlainEntry}
 use Rattle.book.specs.Rules.{Book}
-use Rattle.nodes.specs.Nodes.{Node, choice, fail, forward, Heap, at}
+use Rattle.nodes.specs.Nodes.{Node, forward, Heap, at}
 use Rattle.nodes.specs.Forwards.{follow}
 use Rattle.machine.specs.Made.{Placed, place, rewritten}
 use Rattle.machine.specs.Answers.{symbols_from}

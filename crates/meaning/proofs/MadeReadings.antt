@@ -9,7 +9,7 @@ use native.Mathlib.Nat.{le_refl}
 use lib.ListN.{length}
 use Rattle.expressions.specs.Expressions.{Expr, Exprs}
 use Rattle.book.specs.Rules.{Book}
-use Rattle.nodes.specs.Nodes.{Node, apply, choice, fail}
+use Rattle.nodes.specs.Nodes.{Node, apply}
 use Rattle.machine.specs.Made.{make, make_row, place}
 use Rattle.rewriting.specs.Scoped.{Scoped, ScopedRow}
 use Rattle.rewriting.proofs.Holds.{AllFrom, all_from_split}

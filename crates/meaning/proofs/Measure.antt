@@ -8,7 +8,7 @@ use Rattle.book.specs.Rules.{Book}
 use Rattle.nodes.specs.Nodes.{Node, at}
 use Rattle.rewriting.specs.Lists.{firsts}
 use Rattle.rewriting.specs.Heaps.{ChoiceBelow, ChoicesBelow}
-use Rattle.meaning.specs.Partial.{Part, Parts, bot, no_parts, more_parts, to_list, of_list, ◌⊑◌, ◌⊑*◌, none⊑, more⊑}
+use Rattle.meaning.specs.Partial.{Part, Parts, bot, no_parts, more_parts, to_list, of_list, ◌⊑*◌, none⊑, more⊑}
 use Rattle.meaning.specs.Readings.{Side, AgreesIn, Agrees}
 use Rattle.meaning.proofs.Order.{⊑_refl, ◌⊑ˡ◌, []⊑, ◌∷⊑◌, ◌⊑ᶠ◌, agrees_in_mono}
 

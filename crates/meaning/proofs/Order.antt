@@ -11,7 +11,7 @@ use lib.ListN.{length, get_or}
 use Rattle.expressions.specs.Expressions.{Expr, Exprs}
 use Rattle.book.specs.Trees.{Tree}
 use Rattle.book.specs.Rules.{Book}
-use Rattle.nodes.specs.Nodes.{Node, apply, choice, fail, forward, at}
+use Rattle.nodes.specs.Nodes.{Node, apply, choice, fail, forward}
 use Rattle.rewriting.specs.Rewriting.{Value, Values, con, no_values, more_values}
 use Rattle.meaning.specs.Partial.{Part, Parts, bot, no_parts, more_parts, to_list, of_list, ◌⊑◌, bot⊑, con⊑, ◌⊑*◌, none⊑, more⊑}
 use Rattle.meaning.specs.Partial.{Hits, Gives, GivesRow}

@@ -4,7 +4,7 @@ use mathlib.Core.List.{List, [], ◌∷◌, ◌++◌, map, append_assoc}
 use Prim.Native.Nat.{ℕ}
 use Rattle.symbols.specs.Symbols.{Symbols}
 use Rattle.book.specs.Rules.{Book, Rules, book_of}
-use Rattle.nodes.specs.Nodes.{Heap, at}
+use Rattle.nodes.specs.Nodes.{Heap}
 use Rattle.rewriting.specs.Rewriting.{State, Steps, Value, Values, con, no_values, more_values, IsValue, AreValues, Reaches}
 use Rattle.rewriting.specs.Heaps.{InRange}
 use Rattle.sorts.specs.Sorts.{arguments_of, HeapFits}
