@@ -1,5 +1,5 @@
 -- "for the same book, question and room": whoever raises fuel lends buffers as long as before, with whatever the last run left in them.
-use Rattle.std.specs.Prelude.{◌≡◌, ◌≢◌, List, ◌++◌, ℕ, length}
+use Rattle.std.specs.Prelude.{◌≡◌, ◌≢◌, List, ◌++◌, length}
 use Rattle.machine.specs.Answers.{Answer}
 use Rattle.machine.specs.Run.{Memory, Outcome}
 use Rattle.fuel.specs.MoreFuel.{records}

@@ -1,6 +1,6 @@
 -- DEMAND 3 over the records of all calls joined: what crate `meaning` keeps from turn to turn of a state with its answers is kept of the state with the
 -- answers of all calls, whatever room each call had for its own.
-use mathlib.Core.Path.{◌≡◌, refl, sym, ap, subst, ◌∙◌}
+use mathlib.Core.Path.{◌≡◌, refl, ap, subst, ◌∙◌}
 use mathlib.Core.Logic.{inl, inr, ◌≢◌, ◌↔◌}
 use mathlib.Core.List.{List, [], ◌∷◌, ◌++◌, map, append-nil}
 use Prim.Native.Nat.{ℕ, zero, suc, ◌<◌}

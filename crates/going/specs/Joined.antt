@@ -1,5 +1,5 @@
 -- FUEL A FOLLOWED BY B MORE equals fuel a plus b (request L12).
-use Rattle.std.specs.Prelude.{◌≡◌, List, ◌++◌, ℕ, ◌+◌, length}
+use Rattle.std.specs.Prelude.{◌≡◌, List, ◌++◌, ℕ, length}
 use Rattle.machine.specs.Answers.{Answer, answer_bytes}
 use Rattle.machine.specs.Run.{Memory, Outcome, over}
 

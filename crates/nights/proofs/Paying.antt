@@ -1,6 +1,6 @@
 -- Every turn pays: what it counts, and what still has to be done after it, come to no more than before it. And a turn is never refused for going too far.
 use mathlib.Core.Bool.{Bool, true, false}
-use mathlib.Core.Path.{◌≡◌, refl, sym, ap}
+use mathlib.Core.Path.{◌≡◌, refl, ap}
 use mathlib.Core.Logic.{◌⊎◌, inl, inr}
 use mathlib.Core.List.{List, [], ◌∷◌, ◌++◌}
 use Prim.Native.Nat.{ℕ, suc, ◌+◌, ◌*◌, ◌≤◌, ◌<◌}
@@ -19,7 +19,7 @@ use Rattle.rewriting.proofs.Lists.{all_append}
 use Rattle.expressions.specs.Expressions.{Expr}
 use Rattle.book.specs.Trees.{Tree}
 use Rattle.book.specs.Rules.{Book}
-use Rattle.nodes.specs.Nodes.{Node, apply, choice, fail, Heap, at}
+use Rattle.nodes.specs.Nodes.{Node, apply, Heap, at}
 use Rattle.nodes.specs.Forwards.{follow}
 use Rattle.machine.specs.Made.{place, rewritten, expr_choices}
 use Rattle.machine.specs.FirstLook.{first_look}

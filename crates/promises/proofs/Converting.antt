@@ -31,7 +31,7 @@ use Rattle.reading.proofs.Keeping.{passed, failed-test}
 use Rattle.book.specs.Rules.{Rules}
 use Rattle.book.specs.Admission.{read_book}
 use Rattle.meaning.proofs.Refusals.{book-refused}
-use Rattle.converter.specs.Convert.{read_old, new_book, Outcome, refusing, laid, convert}
+use Rattle.converter.specs.Convert.{read_old, new_book, refusing, laid, convert}
 use Rattle.converter.specs.Same.{Replaces}
 use Rattle.converter.specs.InCode.{after}
 use Rattle.converter.proofs.Same.{replaced}

@@ -3,7 +3,7 @@
 use mathlib.Core.Bool.{Bool, true, false}
 use mathlib.Core.Path.{◌≡◌, refl, sym, ap, subst, ◌∙◌}
 use mathlib.Core.List.{List, ◌++◌}
-use Prim.Native.Nat.{ℕ, ◌≤◌, ◌<◌}
+use Prim.Native.Nat.{ℕ, ◌<◌}
 use native.Mathlib.Omega.{arith}
 use types.Logic.{Logic}
 use borrow.Author.Tests.{ltb-true}
@@ -21,7 +21,6 @@ use denote.Triple.Table.{run_framed}
 use denote.Triple.Weaken.{weaken}
 use Rattle.reading.specs.Reading.{Reading, got, refusal}
 use Rattle.writer.specs.Rows.{Rows}
-use Rattle.writer.specs.Exact.{Bytes, Numbers, BookOf, Meant}
 use Rattle.limits.specs.Sizes.{most_book_bytes}
 use Rattle.symbols.specs.Symbols.{Symbols}
 use Rattle.symbols.specs.SymbolPart.{symbol_part}
@@ -36,7 +35,6 @@ use Rattle.writer.specs.contracts.write_book as writing
 use Rattle.writer.proofs.write_book.Met as written-so
 use Rattle.writer.proofs.write_book.Symbol as write_symbol
 use Rattle.figures.specs.Figures.{books_at, ended_as, figures}
-use Rattle.figures.specs.Figures as Figures
 use Rattle.figures.specs.InCode.{after as figured_as}
 use Rattle.figures.proofs.Order.{counted}
 use Rattle.figures.specs.contracts.add_figures as adding

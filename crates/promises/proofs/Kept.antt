@@ -1,10 +1,10 @@
 -- The code keeps what is promised: a corollary of the contract of `run::run` alone, which the kit makes of its `ensures` in the code.
-use mathlib.Core.Path.{◌≡◌, refl, sym, ap, subst, ◌∙◌}
+use mathlib.Core.Path.{◌≡◌, sym, subst, ◌∙◌}
 use mathlib.Core.Logic.{◌⊎◌, inl, inr}
-use mathlib.Core.List.{List, []}
-use Prim.Native.Nat.{ℕ, ◌<◌}
+use mathlib.Core.List.{List}
+use Prim.Native.Nat.{ℕ}
 use native.Mathlib.Omega.{arith}
-use lib.ListN.{length, take}
+use lib.ListN.{take}
 use seplogic.Ra.Ura.{Ura}
 use prog.Model.{Model}
 use prog.Wired.{Wired}
@@ -19,7 +19,6 @@ use Rattle.reading.specs.Reading.{got}
 use Rattle.expressions.specs.Expressions.{Expr}
 use Rattle.book.specs.Rules.{Rules}
 use Rattle.book.specs.Admission.{read_book, read_question}
-use Rattle.machine.specs.Answers.{Answer}
 use Rattle.machine.specs.Run.{Memory, Outcome, run}
 use Rattle.meaning.specs.Demand3.{Untouched, Answered}
 use Rattle.meaning.specs.Records.{records_in, answers_in}

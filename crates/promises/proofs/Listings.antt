@@ -3,7 +3,7 @@
 use mathlib.Core.Bool.{Bool, true, false, ◌||◌}
 use mathlib.Core.Path.{◌≡◌, refl, sym, ap, ap₂, subst, ◌∙◌}
 use mathlib.Core.Option.{Option, none, some}
-use mathlib.Core.List.{List, [], ◌∷◌, ◌++◌}
+use mathlib.Core.List.{List, [], ◌∷◌}
 use Prim.Native.Nat.{ℕ, zero, suc, ◌+◌, ◌<◌}
 use native.Mathlib.Omega.{arith}
 use lib.Dec.{ltb}
@@ -45,7 +45,7 @@ use Rattle.circles.proofs.save_listing.Symbol as save-symbol
 use Rattle.above.specs.Promised.{asking}
 use Rattle.above.proofs.Promised.{promised}
 use Rattle.above.proofs.TooLarge.{told_43}
-use Rattle.nights.specs.Nights.{book_in, Told, Nights}
+use Rattle.nights.specs.Nights.{book_in, Told}
 use Rattle.nights.proofs.Nights.{nights}
 use Rattle.run.specs.Outcomes.{after}
 use Rattle.run.specs.contracts.run as running

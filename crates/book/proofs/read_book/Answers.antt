@@ -29,7 +29,6 @@ slice_bounds-read_tree_part-end c =
 
 pub read_tree_part-trees-requires : goal.read_tree_part-trees-requires
 read_tree_part-trees-requires c =
-    let read = c in
     let known = kept (goal.at.read_tree_part-trees-requires c).After-read_symbol_part-symbols c.in-Got.is in
     rw sub-zero (
       known.size,
@@ -39,15 +38,12 @@ read_tree_part-trees-requires c =
 
 pub returns-in-Refusal : goal.returns-in-Refusal
 returns-in-Refusal c =
-    let read = c in
     let told = symbols-refused (book (goal.at.returns-in-Refusal c).After-read_symbol_part-symbols) (ap reading_of (sym c.in-Refusal.is) ∙ c.read_symbol_part-symbols.ensures.0) in
     let answer = c.refused.ensures in
     (ap reading_of answer.0 ∙ told.answer, answer.1 ∙ told.table, answer.2 ∙ told.found, answer.3 ∙ told.marks)
 
 pub returns-in-Refusal-r : goal.returns-in-Refusal-r
 returns-in-Refusal-r c =
-    let trees = c in
-    let read = c in
     let known = kept (goal.at.returns-in-Refusal-r c).After-read_symbol_part-symbols c.in-Got.is in
     let given = rw (sub-zero, known.means) at c.read_tree_part-trees.ensures in
     let told = trees-refused (book (goal.at.returns-in-Refusal-r c).After-read_symbol_part-symbols) known.part (ap reading_of (sym c.in-Refusal-r.is) ∙ given.0) in
@@ -56,8 +52,6 @@ returns-in-Refusal-r c =
 
 pub returns-in-Got-r : goal.returns-in-Got-r
 returns-in-Got-r c =
-    let trees = c in
-    let read = c in
     let known = kept (goal.at.returns-in-Got-r c).After-read_symbol_part-symbols c.in-Got.is in
     let given = rw (sub-zero, known.means) at c.read_tree_part-trees.ensures in
     let told = book-read (book (goal.at.returns-in-Got-r c).After-read_symbol_part-symbols) known.part _ _ _ known.ranked (ap reading_of (sym c.in-Got-r.is) ∙ given.0) given.1 in

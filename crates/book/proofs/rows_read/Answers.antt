@@ -24,13 +24,11 @@ module _ (c : After-read_symbol_part-symbols) where
 
 pub slice_bounds-trees_read-end : goal.slice_bounds-trees_read-end
 slice_bounds-trees_read-end c =
-    let reading = c in
     let known = kept (goal.at.slice_bounds-trees_read-end c).After-read_symbol_part-symbols c.in-Got.is in
     omega (arith, known.few, known.long)
 
 pub trees_read-requires : goal.trees_read-requires
 trees_read-requires c =
-    let reading = c in
     let known = kept (goal.at.trees_read-requires c).After-read_symbol_part-symbols c.in-Got.is in
     rw sub-zero (
       known.size,
@@ -40,20 +38,16 @@ trees_read-requires c =
 
 pub overflow_add-result : goal.overflow_add-result
 overflow_add-result c =
-    let reading = c in
     let known = kept (goal.at.overflow_add-result c).After-read_symbol_part-symbols c.in-Got.is in
     record { fits = omega (arith, known.few, c.trees_read.ensures.1) }
 
 pub returns-in-Refusal : goal.returns-in-Refusal
 returns-in-Refusal c =
-    let read = c in
     let counted = c.symbols_read.ensures in
     (symbols-counted (book (goal.at.returns-in-Refusal c).After-read_symbol_part-symbols) (ap reading_of (sym c.in-Refusal.is) ∙ c.read_symbol_part-symbols.ensures.0) counted.0, omega (arith, counted.1))
 
 pub returns-in-Got : goal.returns-in-Got
 returns-in-Got c =
-    let reading = c in
-    let read = c in
     let known = kept (goal.at.returns-in-Got c).After-read_symbol_part-symbols c.in-Got.is in
     let counted = rw (sub-zero, known.means) at c.trees_read.ensures in
     (trees-counted (book (goal.at.returns-in-Got c).After-read_symbol_part-symbols) known.part known.many counted.0, omega (arith, known.few, counted.1))

@@ -11,12 +11,10 @@ use Rattle.judging.specs.Search.{Searching, Roomy}
 use Rattle.judging.proofs.Searched.{pop, nothing_seen, all-on, unseen_most, put-sum, put-room, search_says}
 use Rattle.judging.proofs.comes_back.Goals as goal
 
--- src/lib.rt:232:9
 pub put_arrows-height-requires : goal.put_arrows-height-requires
 put_arrows-height-requires c = let a = c.args in
     (record { long = c.requires.0; high = c.requires.1; count = omega (arith, unseen_most a.used a.seen.now) }, c.requires.2, c.requires.3)
 
--- src/lib.rt:233:5
 pub loop-height-init : goal.loop-height-init
 loop-height-init c =
     let a = c.args in
@@ -32,16 +30,13 @@ loop-height-init c =
     } in
     (put-room a.used put sized roomy, put.goes a.n (inl refl) (nothing_seen c.requires.4), put.all, refl, refl)
 
--- src/lib.rt:235:20
 pub offset_bounds-stack-height : goal.offset_bounds-stack-height
 offset_bounds-stack-height c = let l = c.loop-height in omega
     (arith, l.invariant.0.count, c.requires.3)
 
--- src/lib.rt:235:20
 pub bounds-stack-height : goal.bounds-stack-height
 bounds-stack-height c = let l = c.loop-height in omega (arith, l.invariant.0.count, l.invariant.0.high, c.loop-height-test.true)
 
--- src/lib.rt:236:9
 pub put_arrows-height-requires-in-loop-height : goal.put_arrows-height-requires-in-loop-height
 put_arrows-height-requires-in-loop-height c =
     let a = c.args in
@@ -54,7 +49,6 @@ put_arrows-height-requires-in-loop-height c =
     (l.invariant.1.stacked (l.height - 1) (omega (arith, c.loop-height-test.true))) in
     (record { long = r.long; high = r.high; count = omega (arith, r.count) }, omega (arith, reached.0, sized), c.requires.3)
 
--- src/lib.rt:233:5
 pub loop-height-smaller : goal.loop-height-smaller
 loop-height-smaller c =
     let a = c.args in
@@ -65,7 +59,6 @@ loop-height-smaller c =
     let put = c.put_arrows-height-in-loop-height.ensures in
     omega (arith, put-sum a.used put sized, c.loop-height-test.true)
 
--- src/lib.rt:233:5
 pub loop-height-preserved : goal.loop-height-preserved
 loop-height-preserved c =
     let a = c.args in
@@ -86,25 +79,20 @@ loop-height-preserved c =
       put.same_stack ∙ l.invariant.4,
     )
 
--- src/lib.rt:238:5
 pub offset_bounds-seen-wide : goal.offset_bounds-seen-wide
 offset_bounds-seen-wide c = omega (arith, c.wide.ensures.1)
 
--- src/lib.rt:238:5
 pub bounds-seen-wide : goal.bounds-seen-wide
 bounds-seen-wide c =
     let l = c.loop-height in
     omega (arith, c.wide.ensures.0, l.invariant.0.long, c.requires.2)
 
--- src/lib.rt:220:1
 pub shape_of-seen : goal.shape_of-seen
 shape_of-seen c = c.loop-height.invariant.3 ∙ c.put_arrows-height.ensures.same_seen
 
--- src/lib.rt:220:1
 pub shape_of-stack : goal.shape_of-stack
 shape_of-stack c = c.loop-height.invariant.4 ∙ c.put_arrows-height.ensures.same_stack
 
--- src/lib.rt:220:1
 pub returns : goal.returns
 returns c =
     let a = c.args in

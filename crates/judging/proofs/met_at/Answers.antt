@@ -9,7 +9,6 @@ use Rattle.judging.specs.Sorts.{met_by}
 use Rattle.judging.proofs.MetAt.{said_known, said_unknown, said_choice, said_forward, said_other}
 use Rattle.judging.proofs.met_at.Goals as goal
 
--- src/lib.rt:143:13
 pub returns-then-f-table : goal.returns-then-f-table
 returns-then-f-table c =
     let a = c.args in
@@ -26,7 +25,6 @@ returns-then-f-table c =
     (f.ensures.0 ∙ c.label_at.ensures) (omega arith)
     (c.widened.ensures.0 ∙ c.sort_of.ensures) c.join.ensures)
 
--- src/lib.rt:145:9
 pub returns-then-kind-eq-APPLY : goal.returns-then-kind-eq-APPLY
 returns-then-kind-eq-APPLY c =
     let a = c.args in
@@ -41,7 +39,6 @@ returns-then-kind-eq-APPLY c =
     (said_unknown bs table m met a.n own.result kind.result f.result kind.ensures c.if-kind-eq-APPLY.true
     (f.ensures.0 ∙ c.label_at.ensures) (omega arith))
 
--- src/lib.rt:150:9
 pub returns-then-kind-eq-CHOICE : goal.returns-then-kind-eq-CHOICE
 returns-then-kind-eq-CHOICE c =
     let a = c.args in
@@ -60,7 +57,6 @@ returns-then-kind-eq-CHOICE c =
     (right.ensures ∙ ap (λ (x : ℕ). get_or met x 0) c.arrow_at-then-kind-eq-CHOICE.ensures)
     c.join-then-kind-eq-CHOICE.ensures c.join-then-kind-eq-CHOICE-2.ensures)
 
--- src/lib.rt:153:9
 pub returns-then-kind-eq-FORWARD : goal.returns-then-kind-eq-FORWARD
 returns-then-kind-eq-FORWARD c =
     let a = c.args in
@@ -75,7 +71,6 @@ returns-then-kind-eq-FORWARD c =
     (said_forward bs table m met a.n own.result kind.result to.result c.join-then-kind-eq-FORWARD.result kind.ensures c.if-kind-eq-FORWARD.true
     (to.ensures ∙ ap (λ (x : ℕ). get_or met x 0) c.arrow_at-then-kind-eq-FORWARD.ensures) c.join-then-kind-eq-FORWARD.ensures)
 
--- src/lib.rt:135:1
 pub returns : goal.returns
 returns c =
     let a = c.args in

@@ -12,7 +12,6 @@ use Rattle.judging.specs.Sorts.{met_by}
 use Rattle.judging.proofs.Meeting.{Meeting, meeting_first, meeting_on, meeting_mark, meeting_last}
 use Rattle.judging.proofs.met_pass.Goals as goal
 
--- src/lib.rt:165:5
 pub loop-n-init : goal.loop-n-init
 loop-n-init c =
     let a = c.args in
@@ -24,30 +23,24 @@ loop-n-init c =
           (meeting_first S h a.met.now (omega (arith, sized, c.requires.0)) c.requires.3),
     )
 
--- src/lib.rt:167:51
 pub overflow_cast-n : goal.overflow_cast-n
 overflow_cast-n c = omega (arith, c.loop-n.invariant.0, c.requires.1)
 
--- src/lib.rt:168:19
 pub offset_bounds-met-n : goal.offset_bounds-met-n
 offset_bounds-met-n c = omega (arith, c.loop-n.invariant.0, c.requires.1)
 
--- src/lib.rt:168:19
 pub bounds-met-n : goal.bounds-met-n
 bounds-met-n c = let l = c.loop-n in omega
     (arith, l.invariant.1.down, l.invariant.1.room, c.loop-n-test.true)
 
--- src/lib.rt:169:13
 pub offset_bounds-met-n-then-new-met : goal.offset_bounds-met-n-then-new-met
 offset_bounds-met-n-then-new-met c =
     omega (arith, c.loop-n.invariant.0, c.requires.1)
 
--- src/lib.rt:169:13
 pub bounds-met-n-then-new-met : goal.bounds-met-n-then-new-met
 bounds-met-n-then-new-met c = let l = c.loop-n in omega
     (arith, l.invariant.1.down, l.invariant.1.room, c.loop-n-test.true)
 
--- src/lib.rt:165:5
 pub loop-n-preserved-then-new-met : goal.loop-n-preserved-then-new-met
 loop-n-preserved-then-new-met c =
     let a = c.args in
@@ -62,7 +55,6 @@ loop-n-preserved-then-new-met c =
     (sym (heap-at S a.nodes.now a.used (l.n - 1) inside)) in
     (omega (arith, l.invariant.0), meeting_mark S c.requires.2 meeting new.result said c.if-new-met.true)
 
--- src/lib.rt:165:5
 pub loop-n-preserved : goal.loop-n-preserved
 loop-n-preserved c =
     let a = c.args in
@@ -77,11 +69,9 @@ loop-n-preserved c =
     (sym (heap-at S a.nodes.now a.used (l.n - 1) inside)) in
     (omega (arith, l.invariant.0), meeting_on S c.requires.2 meeting (sym said ∙ c.if-new-met.false))
 
--- src/lib.rt:159:1
 pub shape_of-met : goal.shape_of-met
 shape_of-met c = c.loop-n.invariant.1.long
 
--- src/lib.rt:159:1
 pub returns : goal.returns
 returns c =
     let a = c.args in

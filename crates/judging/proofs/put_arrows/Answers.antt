@@ -14,7 +14,6 @@ use Rattle.judging.proofs.Searched.{Putting, putting_first, putting_on, putting_
 use Rattle.judging.proofs.put_arrows.Goals as goal
 use Rattle.judging.proofs.put_arrows.Goals.{then-is_unseen, else-is_unseen}
 
--- src/lib.rt:205:5
 pub loop-j-init : goal.loop-j-init
 loop-j-init c = let a = c.args in (
   omega arith,
@@ -22,11 +21,9 @@ loop-j-init c = let a = c.args in (
       a.height,
 )
 
--- src/lib.rt:206:20
 pub overflow_cast-slot : goal.overflow_cast-slot
 overflow_cast-slot c = omega (arith, c.arrows_at-many.ensures.1)
 
--- src/lib.rt:210:13
 pub offset_bounds-seen-x : goal.offset_bounds-seen-x
 offset_bounds-seen-x c =
     let a = c.args in
@@ -41,7 +38,6 @@ offset_bounds-seen-x c =
     let (there, low, room) = stack_room a.used x.result l.invariant.1 sized c.requires.0 inside other in
     omega (arith, inside, low, c.requires.2)
 
--- src/lib.rt:210:13
 pub bounds-seen-x : goal.bounds-seen-x
 bounds-seen-x c =
     let a = c.args in
@@ -56,7 +52,6 @@ bounds-seen-x c =
     let (there, low, room) = stack_room a.used x.result l.invariant.1 sized c.requires.0 inside other in
     there
 
--- src/lib.rt:211:13
 pub offset_bounds-stack-top : goal.offset_bounds-stack-top
 offset_bounds-stack-top c =
     let a = c.args in
@@ -71,7 +66,6 @@ offset_bounds-stack-top c =
     let (there, low, room) = stack_room a.used x.result l.invariant.1 sized c.requires.0 inside other in
     omega (arith, inside, low, c.requires.2)
 
--- src/lib.rt:211:13
 pub bounds-stack-top : goal.bounds-stack-top
 bounds-stack-top c =
     let a = c.args in
@@ -86,7 +80,6 @@ bounds-stack-top c =
     let (there, low, room) = stack_room a.used x.result l.invariant.1 sized c.requires.0 inside other in
     room
 
--- src/lib.rt:212:13
 pub overflow_add-top : goal.overflow_add-top
 overflow_add-top c =
     let a = c.args in
@@ -101,7 +94,6 @@ overflow_add-top c =
     let (there, low, room) = stack_room a.used x.result l.invariant.1 sized c.requires.0 inside other in
     omega (arith, inside, low, c.requires.2)
 
--- src/lib.rt:205:5
 pub loop-j-preserved : goal.loop-j-preserved
 loop-j-preserved c =
     let a = c.args in
@@ -134,15 +126,12 @@ loop-j-preserved c =
       ],
     )
 
--- src/lib.rt:189:1
 pub shape_of-seen : goal.shape_of-seen
 shape_of-seen c = c.loop-j.invariant.1.same_seen
 
--- src/lib.rt:189:1
 pub shape_of-stack : goal.shape_of-stack
 shape_of-stack c = c.loop-j.invariant.1.same_stack
 
--- src/lib.rt:189:1
 pub returns : goal.returns
 returns c =
     let a = c.args in

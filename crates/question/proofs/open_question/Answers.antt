@@ -9,24 +9,20 @@ returns-then-question-gt-QUESTION c = opened_too_long c.args.question.now c.if-q
 
 pub returns-then-version-eq0 : goal.returns-then-version-eq0
 returns-then-version-eq0 c =
-    let first = c in
     let found = sym (ap reading_of c.in-Got.is) ∙ c.byte_at.ensures in
     opened-zero c.args.question.now c.if-question-gt-QUESTION.false found c.if-version-eq0.true
 
 pub returns-then-version-gt2 : goal.returns-then-version-gt2
 returns-then-version-gt2 c =
-    let first = c in
     let found = sym (ap reading_of c.in-Got.is) ∙ c.byte_at.ensures in
     opened-above c.args.question.now c.if-question-gt-QUESTION.false found c.if-version-eq0.false c.if-version-gt2.true
 
 pub returns-in-Refusal : goal.returns-in-Refusal
 returns-in-Refusal c =
-    let first = c in
     let found = sym (ap reading_of c.in-Refusal.is) ∙ c.byte_at.ensures in
     opened-empty c.args.question.now c.if-question-gt-QUESTION.false found
 
 pub returns-else-version-gt2 : goal.returns-else-version-gt2
 returns-else-version-gt2 c =
-    let first = c in
     let found = sym (ap reading_of c.in-Got.is) ∙ c.byte_at.ensures in
     opened-length c.args.question.now c.if-question-gt-QUESTION.false found c.if-version-eq0.false c.if-version-gt2.false c.length_at.ensures

@@ -13,9 +13,6 @@ returns-then-sort-gt-LAST_SORT c =
 
 pub returns-then-t-e : goal.returns-then-t-e
 returns-then-t-e c =
-    let read = c in
-    let sorted = c in
-    let start = c in
     let a = c.args in
     let found = sym (ap reading_of c.in-Got.is) ∙ c.byte_at.ensures in
     let told = sym (ap reading_of c.in-Got-read_whole.is) ∙ c.read_whole.ensures in
@@ -24,9 +21,6 @@ returns-then-t-e c =
 
 pub returns-then-t-question : goal.returns-then-t-question
 returns-then-t-question c =
-    let read = c in
-    let sorted = c in
-    let start = c in
     let a = c.args in
     let found = sym (ap reading_of c.in-Got.is) ∙ c.byte_at.ensures in
     let told = sym (ap reading_of c.in-Got-read_whole.is) ∙ c.read_whole.ensures in
@@ -41,9 +35,6 @@ returns-in-Refusal c =
 
 pub returns-in-Refusal-read_whole : goal.returns-in-Refusal-read_whole
 returns-in-Refusal-read_whole c =
-    let read = c in
-    let sorted = c in
-    let start = c in
     let a = c.args in
     let found = sym (ap reading_of c.in-Got.is) ∙ c.byte_at.ensures in
     let told = sym (ap reading_of c.in-Refusal-read_whole.is) ∙ c.read_whole.ensures in
@@ -52,9 +43,6 @@ returns-in-Refusal-read_whole c =
 
 pub returns-else-t-question : goal.returns-else-t-question
 returns-else-t-question c =
-    let read = c in
-    let sorted = c in
-    let start = c in
     let a = c.args in
     let found = sym (ap reading_of c.in-Got.is) ∙ c.byte_at.ensures in
     let told = sym (ap reading_of c.in-Got-read_whole.is) ∙ c.read_whole.ensures in

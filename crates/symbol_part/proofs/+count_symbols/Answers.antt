@@ -27,14 +27,12 @@ count_symbols-requires t c =
 
 pub returns-in-Refusal : goal.returns-in-Refusal
 returns-in-Refusal t c =
-    let read = c in
     let a = c.args in
     let refusal = ap reading_of (sym c.in-Refusal.is) ∙ c.read_symbol.ensures in
     (count-refused a.s.now a.e a.before a.p c.if-e-p.false refusal, omega arith)
 
 pub returns-in-Got : goal.returns-in-Got
 returns-in-Got t c =
-    let read = c in
     let a = c.args in
     let first = one t (goal.at.returns-in-Got t c).After-read_symbol c.in-Got.is in
     let rest = c.count_symbols.ensures in

@@ -46,14 +46,12 @@ loop-f-init c =
 
 pub loop-f-preserved-then-not-is_operation : goal.loop-f-preserved-then-not-is_operation
 loop-f-preserved-then-not-is_operation c =
-    let looked = c in
     let constructor = not-true c.is_operation.result c.if-not-is_operation.true-raw in
     let r = c.loop-f.invariant.1 in
     (omega arith, chained-constructor _ (before (goal.at.loop-f-preserved-then-not-is_operation c).After-is_operation) (here (goal.at.loop-f-preserved-then-not-is_operation c).After-is_operation) r c.sort_of-s.result (its-sort (goal.at.loop-f-preserved-then-not-is_operation c).After-is_operation) (omega arith) (its-kind (goal.at.loop-f-preserved-then-not-is_operation c).After-is_operation ∙ constructor))
 
 pub loop-f-preserved : goal.loop-f-preserved
 loop-f-preserved c =
-    let looked = c in
     let operation = not-false c.is_operation.result c.if-not-is_operation.false-raw in
     let r = c.loop-f.invariant.1 in
     (omega arith, chained-operation _ (before (goal.at.loop-f-preserved c).After-is_operation) (here (goal.at.loop-f-preserved c).After-is_operation) r c.sort_of-s.result (its-sort (goal.at.loop-f-preserved c).After-is_operation) (omega arith) (its-kind (goal.at.loop-f-preserved c).After-is_operation ∙ operation))

@@ -10,42 +10,33 @@ returns-then-book-gt-BOOK c =
 
 pub returns-then-version-eq0 : goal.returns-then-version-eq0
 returns-then-version-eq0 c =
-    let byte = c in
     let version = ap reading_of (sym c.in-Got.is) ∙ c.byte_at.ensures in
     opened-zero c.args.book.now c.if-book-gt-BOOK.false version c.if-version-eq0.true
 
 pub returns-then-version-gt2 : goal.returns-then-version-gt2
 returns-then-version-gt2 c =
-    let byte = c in
     let version = ap reading_of (sym c.in-Got.is) ∙ c.byte_at.ensures in
     opened-above c.args.book.now c.if-book-gt-BOOK.false version c.if-version-eq0.false c.if-version-gt2.true
 
 pub returns-in-Refusal : goal.returns-in-Refusal
 returns-in-Refusal c =
-    let byte = c in
     let refusal = ap reading_of (sym c.in-Refusal.is) ∙ c.byte_at.ensures in
     opened-empty c.args.book.now c.if-book-gt-BOOK.false refusal
 
 pub returns-in-Refusal-length_at : goal.returns-in-Refusal-length_at
 returns-in-Refusal-length_at c =
-    let length = c in
-    let byte = c in
     let version = ap reading_of (sym c.in-Got.is) ∙ c.byte_at.ensures in
     let refusal = ap reading_of (sym c.in-Refusal-length_at.is) ∙ c.length_at.ensures in
     opened-past c.args.book.now c.if-book-gt-BOOK.false version c.if-version-eq0.false c.if-version-gt2.false refusal
 
 pub returns-then-q-e : goal.returns-then-q-e
 returns-then-q-e c =
-    let length = c in
-    let byte = c in
     let version = ap reading_of (sym c.in-Got.is) ∙ c.byte_at.ensures in
     let part = ap reading_of (sym c.in-Got-length_at.is) ∙ c.length_at.ensures in
     opened-none c.args.book.now c.if-book-gt-BOOK.false version c.if-version-eq0.false c.if-version-gt2.false part c.if-q-e.true
 
 pub returns-else-q-e : goal.returns-else-q-e
 returns-else-q-e c =
-    let length = c in
-    let byte = c in
     let version = ap reading_of (sym c.in-Got.is) ∙ c.byte_at.ensures in
     let part = ap reading_of (sym c.in-Got-length_at.is) ∙ c.length_at.ensures in
     opened_some c.args.book.now c.if-book-gt-BOOK.false version c.if-version-eq0.false c.if-version-gt2.false part c.if-q-e.false

@@ -29,7 +29,6 @@ loop-f-preserved c =
     let here : loop.f < length symbols = omega arith in
     let room : length symbols ≤ most_symbols = omega arith in
     let present = c.loop-f-test.true in
-    let operation = c.is_operation.result in
     let its-kind = kind_there a.book.now a.at.now loop.f present c.is_operation.ensures in (
       omega arith,
       elim c.if-not-is_operation.branch [

@@ -62,15 +62,12 @@ returns-in-Refusal c =
 
 pub returns-in-Refusal-read_symbols : goal.returns-in-Refusal-read_symbols
 returns-in-Refusal-read_symbols c =
-    let read = c in
     let refusal = symbol-refused (book (goal.at.returns-in-Refusal-read_symbols c).After-read_symbols) (places (goal.at.returns-in-Refusal-read_symbols c).After-read_symbols) (start (goal.at.returns-in-Refusal-read_symbols c).After-read_symbols) (ap reading_of (sym c.in-Refusal-read_symbols.is)) c.read_symbols.ensures in
     let answer = c.refused-in-Refusal-read_symbols.ensures in
     whole-refused (book (goal.at.returns-in-Refusal-read_symbols c).After-read_symbols) refusal (ap reading_of answer.0) answer.1 answer.2 answer.3 answer.4
 
 pub returns-in-Got-read_symbols : goal.returns-in-Got-read_symbols
 returns-in-Got-read_symbols c =
-    let ranked = c in
-    let read = c in
     let known = kept (goal.at.returns-in-Got-read_symbols c).After-read_symbols c.in-Got-read_symbols.is in
     let chains = rw sub-zero at c.chain_of-chain.ensures in
     whole-read (book (goal.at.returns-in-Got-read_symbols c).After-read_symbols) known (rw sub-zero at c.ranks_of-ranks.ensures) chains.0 chains.1

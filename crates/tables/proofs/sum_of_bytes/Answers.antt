@@ -4,18 +4,15 @@ use native.Mathlib.Omega.{arith}
 use Rattle.tables.proofs.Sums.{sum-on, sum-end}
 use Rattle.tables.proofs.sum_of_bytes.Goals as goal
 
--- src/lib.rt:42:5
 pub loop-i-init : goal.loop-i-init
 loop-i-init c = (omega arith, refl)
 
--- src/lib.rt:42:5
 pub loop-i-preserved : goal.loop-i-preserved
 loop-i-preserved c =
     let loop = c.loop-i in
     let all = c.args.bytes.now in
     (omega arith, sum-on all loop.i loop.sum (omega arith) c.wide_byte.ensures c.mixed-sum.ensures ∙ loop.invariant.1)
 
--- src/lib.rt:37:1
 pub returns : goal.returns
 returns c =
     let loop = c.loop-i in

@@ -25,7 +25,6 @@ count_trees-requires t c =
 
 pub returns-then-not-is_operation : goal.returns-then-not-is_operation
 returns-then-not-is_operation t c =
-    let kind = c in
     let a = c.args in
     let S = symbols_in a.book.now a.at.now in
     let x = symbol_in a.book.now (get_or a.at.now a.f 0) in
@@ -48,8 +47,6 @@ module _ (t : ℕ) (c : After-read_item t) where
 
 pub returns-in-Refusal : goal.returns-in-Refusal
 returns-in-Refusal t c =
-    let item = c in
-    let kind = c in
     let a = c.args in
     let S = symbols_in a.book.now a.at.now in
     let x = symbol_in a.book.now (get_or a.at.now a.f 0) in
@@ -59,8 +56,6 @@ returns-in-Refusal t c =
 
 pub returns-in-Got : goal.returns-in-Got
 returns-in-Got t c =
-    let item = c in
-    let kind = c in
     let a = c.args in
     let S = symbols_in a.book.now a.at.now in
     let x = symbol_in a.book.now (get_or a.at.now a.f 0) in

@@ -26,7 +26,6 @@ use Rattle.book.proofs.trees.+read_cases_read_tree.Goals.{read_cases-After-next_
 
 pub read_cases-loop-f-init : goal.read_cases-loop-f-init
 read_cases-loop-f-init t c =
-    let s = c in
     let a = c.args in
     let to = rw (sym c.first_of-f.ensures) at (chain_first a.book.now a.at.now a.branch c.requires.3.chained (omega arith)) in (
       to.on,
@@ -48,17 +47,12 @@ read_cases-binding-inner-requires t c = omega (arith, read-cases-fits t (goal.at
 
 pub read_cases-read_tree-requires : goal.read_cases-read_tree-requires
 read_cases-read_tree-requires t c =
-    let turn = c in
-    let s = c in
     let arguments = ap length c.arguments_of.ensures.0 in
     (omega arith, (omega (arith, read-cases-fits t (goal.at.read_cases-read_tree-requires t c).In-loop-f, arguments, c.binding-inner.ensures.1), omega arith, omega arith, c.requires.3))
 
 pub read_cases-returns-in-Refusal : goal.read_cases-returns-in-Refusal
 unfolding Branched
 read_cases-returns-in-Refusal t c =
-    let read = c in
-    let bound = c in
-    let turn = c in
     let l = c.loop-f in
     let a = c.args in
     let path = c.binding-inner in
@@ -71,7 +65,6 @@ read_cases-returns-in-Refusal t c =
 
 pub read_cases-next_of-f-requires : goal.read_cases-next_of-f-requires
 read_cases-next_of-f-requires t c =
-    let turn = c in
     omega (arith, c.loop-f-test.true, c.requires.3.few)
 
 -- the chain goes on
@@ -80,23 +73,17 @@ read-cases-goes-on : (t : ℕ) (c : read_cases-After-next_of-f t)
     let a = c.args in
     Arrives a.book.now a.at.now a.branch (c.loop-f.f + 1) c.next_of-f.result
 read-cases-goes-on t c =
-    let turn = c in
     let l = c.loop-f in
-    let s = c in
     let a = c.args in
     rw c.next_of-f.ensures (chain_next a.book.now a.at.now a.branch c.requires.3.chained l.f c.loop-f-test.true l.invariant.0)
 
 pub read_cases-loop-f-smaller : goal.read_cases-loop-f-smaller
 read_cases-loop-f-smaller t c =
-    let turn = c in
     omega (arith, (read-cases-goes-on t c).onward, c.loop-f-test.true)
 
 pub read_cases-loop-f-preserved : goal.read_cases-loop-f-preserved
 unfolding Branched
 read_cases-loop-f-preserved t c =
-    let read = c in
-    let bound = c in
-    let turn = c in
     let l = c.loop-f in
     let a = c.args in
     let inside = c.loop-f-test.true in
@@ -135,7 +122,6 @@ read_tree-returns-then-e-p t c =
 
 pub read_tree-returns-then-code-gt2 : goal.read_tree-returns-then-code-gt2
 read_tree-returns-then-code-gt2 t c =
-    let coded = c in
     let a = c.args in
     let S = symbols_in a.book.now a.at.now in
     λ done flags. told_at a.book.now S a.sort a.e a.depth (vars_of a.path) done a.p c.if-depth-eq0.false refl refl
@@ -143,7 +129,6 @@ read_tree-returns-then-code-gt2 t c =
 
 pub read_tree-returns-then-byte-eq2 : goal.read_tree-returns-then-byte-eq2
 read_tree-returns-then-byte-eq2 t c =
-    let coded = c in
     let a = c.args in
     let S = symbols_in a.book.now a.at.now in
     λ done flags. told_at a.book.now S a.sort a.e a.depth (vars_of a.path) done a.p c.if-depth-eq0.false refl refl
@@ -152,7 +137,6 @@ read_tree-returns-then-byte-eq2 t c =
 
 pub read_tree-returns-then-code-eq0 : goal.read_tree-returns-then-code-eq0
 read_tree-returns-then-code-eq0 t c =
-    let coded = c in
     let a = c.args in
     let S = symbols_in a.book.now a.at.now in
     λ done flags. told_at a.book.now S a.sort a.e a.depth (vars_of a.path) done a.p c.if-depth-eq0.false c.mark.ensures.0 c.mark.ensures.1
@@ -160,15 +144,12 @@ read_tree-returns-then-code-eq0 t c =
 
 pub read_tree-mark-requires-then-code-eq1 : goal.read_tree-mark-requires-then-code-eq1
 read_tree-mark-requires-then-code-eq1 t c =
-    let read = c in
     let a = c.args in
     let whole = whole_extent a.book.now 0 (symbols_in a.book.now a.at.now) a.e (vars_of a.path) a.sort (a.p + 1) in
     (omega arith, inside left_of c.read_rule-r.result whole (λ x q is. omega (arith, is.within)) c.read_rule-r.ensures)
 
 pub read_tree-returns-then-code-eq1 : goal.read_tree-returns-then-code-eq1
 read_tree-returns-then-code-eq1 t c =
-    let read = c in
-    let coded = c in
     let a = c.args in
     let S = symbols_in a.book.now a.at.now in
     λ done flags. told_at a.book.now S a.sort a.e a.depth (vars_of a.path) done a.p c.if-depth-eq0.false c.mark-then-code-eq1.ensures.0 c.mark-then-code-eq1.ensures.1
@@ -182,12 +163,9 @@ read-tree-room t c = search rules
 -- where the variable to branch on was read, the branch may be made
 read-tree-fitting : (t : ℕ) (c : read_tree-In-Got t)
     → let a = c.args in
-    let x = c in
     Fitting (symbols_in a.book.now a.at.now) a.path.sorts a.path.bound a.e (a.p + 1) c.in-Got.x c.in-Got.behind
 unfolding Branched
 read-tree-fitting t c =
-    let read = c in
-    let s = c in
     let a = c.args in
     branch_fits a.book.now (symbols_in a.book.now a.at.now) a.sort a.e a.path.sorts a.path.bound a.path.done (a.p + 1)
     (omega (arith, (read-tree-room t (goal.at.read_tree-In-Got t c).Start).0))
@@ -202,18 +180,13 @@ read_tree-branched-inner-requires t c = omega (arith, (read-tree-fitting t (goal
 pub read_tree-read_cases-r-requires : goal.read_tree-read_cases-r-requires
 read_tree-read_cases-r-requires t c =
     let path = c.branched-inner.ensures in
-    let deep = c in
-    let s = c in
     let fits = (read-tree-fitting t (goal.at.read_tree-read_cases-r-requires t c).In-Got).fits in
     (omega (arith, c.if-depth-eq0.false, c.requires.0), (omega (arith, path.1, c.requires.0), c.requires.1, c.requires.2, c.requires.3, rw path.1 fits))
 
 pub read_tree-mark-requires-in-Got : goal.read_tree-mark-requires-in-Got
 unfolding Branched
 read_tree-mark-requires-in-Got t c =
-    let cases = c in
     let path = c.branched-inner.result in
-    let chosen = c in
-    let s = c in
     let a = c.args in
     let S = symbols_in a.book.now a.at.now in
     let within = (read-tree-fitting t (goal.at.read_tree-mark-requires-in-Got t c).In-Got).within in
@@ -226,8 +199,6 @@ read_tree-mark-requires-in-Got t c =
 
 pub read_tree-returns-in-Refusal : goal.read_tree-returns-in-Refusal
 read_tree-returns-in-Refusal t c =
-    let read = c in
-    let coded = c in
     let a = c.args in
     let S = symbols_in a.book.now a.at.now in
     λ done flags. told_at a.book.now S a.sort a.e a.depth (vars_of a.path) done a.p c.if-depth-eq0.false refl refl
@@ -239,11 +210,6 @@ unfolding Branched
 read_tree-returns-in-Got t c =
     let cases = c.read_cases-r in
     let path = c.branched-inner in
-    let chosen = c in
-    let x = c in
-    let read = c in
-    let coded = c in
-    let s = c in
     let a = c.args in
     let S = symbols_in a.book.now a.at.now in
     let there = (read-tree-fitting t (goal.at.read_tree-returns-in-Got t c).In-Got).there in

@@ -42,7 +42,6 @@ returns-then-at-f t c =
 pub returns-then-not-is_operation : goal.returns-then-not-is_operation
 returns-then-not-is_operation t c =
     let rest = c.read_trees in
-    let kind = c in
     let a = c.args in
     let S = symbols_in a.book.now a.at.now in
     let x = symbol_in a.book.now (get_or a.at.now a.f 0) in
@@ -55,8 +54,6 @@ returns-then-not-is_operation t c =
 read-trees-item-within : (t : ℕ) (c : In-Got t)
     → c.args.p + 2 ≤ most_book_bytes
 read-trees-item-within t c =
-    let item = c in
-    let s = c in
     let a = c.args in
     let S = symbols_in a.book.now a.at.now in
     let x = symbol_in a.book.now (get_or a.at.now a.f 0) in
@@ -72,8 +69,6 @@ overflow_cast-info t c = omega (arith, read-trees-item-within t c)
 
 pub returns-in-Refusal : goal.returns-in-Refusal
 returns-in-Refusal t c =
-    let item = c in
-    let kind = c in
     let a = c.args in
     let S = symbols_in a.book.now a.at.now in
     let x = symbol_in a.book.now (get_or a.at.now a.f 0) in
@@ -85,9 +80,6 @@ returns-in-Refusal t c =
 pub returns-in-Got : goal.returns-in-Got
 returns-in-Got t c =
     let rest = c.read_trees-in-Got in
-    let found = c in
-    let item = c in
-    let kind = c in
     let a = c.args in
     let S = symbols_in a.book.now a.at.now in
     let x = symbol_in a.book.now (get_or a.at.now a.f 0) in

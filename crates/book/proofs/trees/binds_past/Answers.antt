@@ -9,7 +9,6 @@ use Rattle.book.proofs.trees.binds_past.Goals.{After-next_of-f}
 
 pub loop-f-init : goal.loop-f-init
 loop-f-init c =
-    let s = c in
     let a = c.args in
     let to = rw (sym c.first_of-f.ensures) at (chain_first a.book.now a.at.now a.sort c.requires.1.chained (omega arith)) in
     (to.on, ap (binds_past a.bound) to.same)
@@ -26,9 +25,7 @@ goes_on : (c : After-next_of-f)
     let a = c.args in
     Arrives a.book.now a.at.now a.sort (l.f + 1) c.next_of-f.result
 goes_on c =
-    let turn = c in
     let l = c.loop-f in
-    let s = c in
     let a = c.args in
     rw c.next_of-f.ensures (chain_next a.book.now a.at.now a.sort c.requires.1.chained l.f c.loop-f-test.true l.invariant.0)
 
@@ -37,7 +34,6 @@ loop-f-smaller c = omega (arith, (goes_on c).onward)
 
 pub loop-f-preserved : goal.loop-f-preserved
 loop-f-preserved c =
-    let turn = c in
     let l = c.loop-f in
     let a = c.args in
     let passed = past-later a.book.now a.at.now a.bound a.sort l.f c.loop-f-test.true l.invariant.0 (omega (arith, c.arity_of.ensures.0)) in

@@ -13,7 +13,6 @@ use Rattle.book.proofs.trees.read_all.Goals.{After-read_trees}
 
 pub read_trees-requires : goal.read_trees-requires
 read_trees-requires c =
-    let s = c in
     let opened = sym (ap reading_of c.in-Got.is) ∙ c.length_at.ensures in
     let within = good-got (length-good c.args.book.now 0 (length c.args.book.now) c.args.p) (sym opened) in
     (within.2, omega (arith, within.2, c.requires.0), c.requires.1, c.requires.2)
@@ -21,8 +20,6 @@ read_trees-requires c =
 -- what is told of the trees, by the answer of their reader
 trees-listed : (c : After-read_trees) {r : Reading ℕ} → reading_of c.read_trees.result ≡ r
     → let a = c.args in
-    let part = c in
-    let left = c in
     let S = symbols_in a.book.now a.at.now in
     Listed a.book.now S c.in-Got.e c.in-Got.q 0 S r
     a.info.now c.read_trees.new.info a.ends.now c.read_trees.new.ends
@@ -30,11 +27,8 @@ trees-listed c answered = record { answer = sym answered ∙ c.read_trees.ensure
 
 pub returns-then-r-e : goal.returns-then-r-e
 returns-then-r-e c =
-    let trees = c in
-    let part = c in
     let a = c.args in
     let S = symbols_in a.book.now a.at.now in
-    let left = c in
     let opened = sym (ap reading_of c.in-Got.is) ∙ c.length_at.ensures in
     let listed = trees-listed (goal.at.returns-then-r-e c).After-read_trees (ap reading_of c.in-Got-read_trees.is) in
     let read = part-left-over a.book.now S a.p a.info.now c.read_trees.new.info a.ends.now c.read_trees.new.ends opened listed c.if-r-e.true in
@@ -42,11 +36,8 @@ returns-then-r-e c =
 
 pub returns-then-r-book : goal.returns-then-r-book
 returns-then-r-book c =
-    let trees = c in
-    let part = c in
     let a = c.args in
     let S = symbols_in a.book.now a.at.now in
-    let left = c in
     let opened = sym (ap reading_of c.in-Got.is) ∙ c.length_at.ensures in
     let listed = trees-listed (goal.at.returns-then-r-book c).After-read_trees (ap reading_of c.in-Got-read_trees.is) in
     let read = book-left-over a.book.now S a.p a.info.now c.read_trees.new.info a.ends.now c.read_trees.new.ends opened listed c.if-r-e.false c.if-r-book.true in
@@ -62,11 +53,8 @@ returns-in-Refusal c =
 
 pub returns-in-Refusal-read_trees : goal.returns-in-Refusal-read_trees
 returns-in-Refusal-read_trees c =
-    let trees = c in
-    let part = c in
     let a = c.args in
     let S = symbols_in a.book.now a.at.now in
-    let left = c in
     let opened = sym (ap reading_of c.in-Got.is) ∙ c.length_at.ensures in
     let listed = trees-listed (goal.at.returns-in-Refusal-read_trees c).After-read_trees (ap reading_of c.in-Refusal-read_trees.is) in
     let read = part-refused a.book.now S a.p a.info.now c.read_trees.new.info a.ends.now c.read_trees.new.ends opened listed.answer in
@@ -74,11 +62,8 @@ returns-in-Refusal-read_trees c =
 
 pub returns-else-r-book : goal.returns-else-r-book
 returns-else-r-book c =
-    let trees = c in
-    let part = c in
     let a = c.args in
     let S = symbols_in a.book.now a.at.now in
-    let left = c in
     let opened = sym (ap reading_of c.in-Got.is) ∙ c.length_at.ensures in
     let listed = trees-listed (goal.at.returns-else-r-book c).After-read_trees (ap reading_of c.in-Got-read_trees.is) in
     let read = part-read a.book.now S a.p a.info.now c.read_trees.new.info a.ends.now c.read_trees.new.ends opened listed c.if-r-e.false c.if-r-book.false in

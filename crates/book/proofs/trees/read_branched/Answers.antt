@@ -23,9 +23,6 @@ room c =
 pub returns-then-path-x : goal.returns-then-path-x
 unfolding Branched
 returns-then-path-x c =
-    let known = c in
-    let read = c in
-    let s = c in
     let a = c.args in
     let S = symbols_in a.book.now a.at.now in
     let byte = sym (ap reading_of c.in-Got.is) ∙ c.byte_at.ensures in
@@ -35,9 +32,6 @@ returns-then-path-x c =
 pub returns-then-path-x-2 : goal.returns-then-path-x-2
 unfolding Branched
 returns-then-path-x-2 c =
-    let known = c in
-    let read = c in
-    let s = c in
     let a = c.args in
     let S = symbols_in a.book.now a.at.now in
     let byte = sym (ap reading_of c.in-Got.is) ∙ c.byte_at.ensures in
@@ -47,9 +41,6 @@ returns-then-path-x-2 c =
 pub returns-then-binds_past : goal.returns-then-binds_past
 unfolding Branched
 returns-then-binds_past c =
-    let known = c in
-    let read = c in
-    let s = c in
     let a = c.args in
     let S = symbols_in a.book.now a.at.now in
     let byte = sym (ap reading_of c.in-Got.is) ∙ c.byte_at.ensures in
@@ -63,8 +54,6 @@ returns-then-binds_past c =
 pub returns-in-Refusal : goal.returns-in-Refusal
 unfolding Branched
 returns-in-Refusal c =
-    let known = c in
-    let read = c in
     let a = c.args in
     let S = symbols_in a.book.now a.at.now in
     let byte = sym (ap reading_of c.in-Refusal.is) ∙ c.byte_at.ensures in
@@ -73,9 +62,6 @@ returns-in-Refusal c =
 pub returns-else-binds_past : goal.returns-else-binds_past
 unfolding Branched
 returns-else-binds_past c =
-    let known = c in
-    let read = c in
-    let s = c in
     let a = c.args in
     let S = symbols_in a.book.now a.at.now in
     let byte = sym (ap reading_of c.in-Got.is) ∙ c.byte_at.ensures in

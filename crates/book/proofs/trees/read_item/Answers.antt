@@ -36,15 +36,11 @@ operation-told bs S x e q sort vars its-sort its-arguments told =
 
 pub binding-path-requires : goal.binding-path-requires
 binding-path-requires c =
-    let s = c in
     let few = few-there c.args.book.now c.args.at.now c.args.f c.requires.3 c.requires.4 in
     omega (arith, few, c.empty.ensures.0, ap length c.arguments_of.ensures.0)
 
 pub read_tree-requires : goal.read_tree-requires
 read_tree-requires c =
-    let bound = c in
-    let item = c in
-    let s = c in
     let few = few-there c.args.book.now c.args.at.now c.args.f c.requires.3 c.requires.4 in
     let arguments = ap length c.arguments_of.ensures.0 in
     let opened = sym (ap reading_of c.in-Got.is) ∙ c.length_at.ensures in
@@ -87,8 +83,6 @@ returns-in-Refusal c =
 
 pub returns-in-Refusal-read_tree : goal.returns-in-Refusal-read_tree
 returns-in-Refusal-read_tree c =
-    let tree = c in
-    let item = c in
     let a = c.args in
     let x = symbol_in a.book.now (get_or a.at.now a.f 0) in
     let opened = sym (ap reading_of c.in-Got.is) ∙ c.length_at.ensures in
@@ -98,8 +92,6 @@ returns-in-Refusal-read_tree c =
 
 pub returns-then-behind-item : goal.returns-then-behind-item
 returns-then-behind-item c =
-    let tree = c in
-    let item = c in
     let a = c.args in
     let x = symbol_in a.book.now (get_or a.at.now a.f 0) in
     let opened = sym (ap reading_of c.in-Got.is) ∙ c.length_at.ensures in
@@ -109,8 +101,6 @@ returns-then-behind-item c =
 
 pub returns-else-behind-item : goal.returns-else-behind-item
 returns-else-behind-item c =
-    let tree = c in
-    let item = c in
     let a = c.args in
     let x = symbol_in a.book.now (get_or a.at.now a.f 0) in
     let opened = sym (ap reading_of c.in-Got.is) ∙ c.length_at.ensures in

@@ -27,7 +27,6 @@ slice_bounds-read_whole-end c =
 
 pub returns : goal.returns
 returns c =
-    let s = c in
     let a = c.args in
     c.read_whole.ensures
     ∙ ap (keeping left_of) (in-part a.book.now (symbols_in a.book.now a.at.now) a.e a.path.sorts a.path.bound a.sort a.p c.requires.1)

@@ -7,7 +7,6 @@ use Rattle.circles.proofs.SavingRows.{broader-at, end_low, end_in, term-low}
 use Rattle.circles.proofs.RoundWays.{longest-more, longest-none}
 use Rattle.circles.proofs.circle.longest_of.Goals as goal
 
--- src/circle.rt:55:5
 pub loop-i-init : goal.loop-i-init
 loop-i-init c =
     let a = c.args in
@@ -15,13 +14,11 @@ loop-i-init c =
     let whole = broader-at a.from.now a.to.now a.n pre.0 a.x pre.1 in
     rw (c.place-i.ensures, c.place-until.ensures) (ap (longest a.row.now) whole ∙ omega arith)
 
--- src/circle.rt:56:13
 pub term-b-requires : goal.term-b-requires
 term-b-requires c =
     let a = c.args in
     omega (arith, end_low a.from.now a.to.now a.n c.requires.0 a.x c.requires.1, c.place-until.ensures)
 
--- src/circle.rt:57:29
 pub offset_bounds-row-b : goal.offset_bounds-row-b
 offset_bounds-row-b c =
     let a = c.args in
@@ -29,7 +26,6 @@ offset_bounds-row-b c =
     let low = term-low a.from.now a.to.now a.n c.requires.0 a.x c.loop-i.i c.requires.1 (omega arith) in
     omega (arith, c.term-b.ensures, c.requires.0.terms.few)
 
--- src/circle.rt:57:29
 pub bounds-row-b : goal.bounds-row-b
 bounds-row-b c =
     let a = c.args in
@@ -37,12 +33,10 @@ bounds-row-b c =
     let low = term-low a.from.now a.to.now a.n c.requires.0 a.x c.loop-i.i c.requires.1 (omega arith) in
     omega (arith, c.term-b.ensures, c.requires.0.terms.few)
 
--- src/circle.rt:57:29
 pub overflow_add-row : goal.overflow_add-row
 overflow_add-row c =
     omega (arith, c.requires.2 c.term-b.result)
 
--- src/circle.rt:55:5
 pub loop-i-preserved : goal.loop-i-preserved
 loop-i-preserved c =
     let a = c.args in
@@ -54,7 +48,6 @@ loop-i-preserved c =
     let term = c.term-b.ensures in
     omega (arith, loop.invariant, c.larger-best.ensures, ap (λ (b : ℕ). get_or a.row.now b 0) term)
 
--- src/circle.rt:48:1
 pub returns : goal.returns
 returns c =
     let a = c.args in

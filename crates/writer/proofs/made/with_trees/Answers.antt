@@ -72,7 +72,7 @@ returns-in-Refusal c =
 
 pub returns-in-Got : goal.returns-in-Got
 returns-in-Got c =
-    let small = c.if-size-gt-BOOK.false in
-    let told = rw (sub-zero, there (goal.at.returns-in-Got c).After-put_trees-size small) at c.read_book-index.ensures.0 in
+    let fits = c.if-size-gt-BOOK.false in
+    let told = rw (sub-zero, there (goal.at.returns-in-Got c).After-put_trees-size fits) at c.read_book-index.ensures.0 in
     let reading = ap reading_of (sym c.in-Got.is) ∙ told in
-    (ap made (there (goal.at.returns-in-Got c).After-put_trees-size small) ∙ admitted c.args.count (whole (goal.at.returns-in-Got c).After-put_trees-size) (omega (arith, size_is (goal.at.returns-in-Got c).After-put_trees-size)) reading, small)
+    (ap made (there (goal.at.returns-in-Got c).After-put_trees-size fits) ∙ admitted c.args.count (whole (goal.at.returns-in-Got c).After-put_trees-size) (omega (arith, size_is (goal.at.returns-in-Got c).After-put_trees-size)) reading, fits)
