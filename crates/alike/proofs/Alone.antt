@@ -182,7 +182,7 @@ renumbered : {cs : List ℕ} → Rising cs → Below most_choices cs → (a : Pl
 renumbered {cs} rising below a b r = record {
   symbols = r.symbols;
   decisions = r.decisions.same;
-  none-past = r.decisions.open_past;
+  none_past = r.decisions.open_past;
   no_others = r.decisions.open_others;
   written = numbers_renumbered cs rising below (rising-few cs rising below) r.decisions;
 }

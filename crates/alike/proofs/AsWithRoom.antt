@@ -232,7 +232,7 @@ module _ (leaves : Following) (harmless : Harmless leaves) (B : Book) (P : Heap 
     least = length (b.alone 0).heap + extra;
     comes = λ n le more. ap (λ k. Plain.turns B (with_node_room room n) k (b.alone 0)) (omega arith);
     turns = one'.turns;
-    made-turns = omega arith;
+    made_turns = omega arith;
     answers = answers;
     choices = one'.choices;
     waiting = one'.waiting;
@@ -296,7 +296,7 @@ module _ (leaves : Following) (harmless : Harmless leaves) (B : Book) (P : Heap 
             ap (λ k. Plain.turns B (with_node_room room n) k s) (omega arith)
             ∙ turns-whole B (with_node_room room n) (a.made + more) s t e rest front (turn n (omega arith)) ∙ a.comes n (omega arith) more;
         turns = a.turns;
-        made-turns = omega (arith, a.made-turns, counted);
+        made_turns = omega (arith, a.made_turns, counted);
         answers = a.answers;
         choices = a.choices;
         waiting = a.waiting;

@@ -17,7 +17,7 @@ use Rattle.machine.specs.Answers.{Answer as PlainAnswer}
 use Rattle.machine.specs.Turn as Plain
 use Rattle.rewriting.specs.Scoped.{Scoped}
 use Rattle.rewriting.proofs.Steers.{Lawful}
-use Rattle.meaning.specs.Demand3.{question, Opposite, left-right, right-left, Apart}
+use Rattle.meaning.specs.Demand3.{question, Opposite, left_right, right_left, Apart}
 use Rattle.meaning.specs.Demand3 as Plainly
 use Rattle.meaning.proofs.AllTurns as AllTurns
 use Rattle.alike.specs.Asked.{Answer}
@@ -42,15 +42,15 @@ apart_renumbered : {cs : List ℕ} {a b : PlainAnswer} {a' b' : Answer} → Renu
 apart_renumbered {cs} {a} {b} {a'} {b'} ra rb (i, o) = (get_or cs i 0, rw (← ra.decisions i known, ← rb.decisions i known) o)
   where
     not_open : {c d : Side} → Opposite c d → c ≢ Open
-    not_open left-right e = let z : ◌≡◌ {A = ℕ} 0 1 = cc in omega arith
-    not_open right-left e = let z : ◌≡◌ {A = ℕ} 0 1 = cc in omega arith
+    not_open left_right e = let z : ◌≡◌ {A = ℕ} 0 1 = cc in omega arith
+    not_open right_left e = let z : ◌≡◌ {A = ℕ} 0 1 = cc in omega arith
 
     known : i < length cs
     known = by (dec_lt i (length cs))
       where
         by : Dec (i < length cs) → i < length cs
         by (yes lt) = lt
-        by (no ge) = absurd (not_open o (ra.none-past i (omega arith)))
+        by (no ge) = absurd (not_open o (ra.none_past i (omega arith)))
 
 module _ (B : Book) (P : Heap → Type 0) (law : Lawful B P) (x : Expr) (closed : Scoped 0 x) (few : (question x).choices ≤ most_choices)
     (lawful : P (question x).heap) (q : ℕ) (r : Later.Ended) (al : AsAlone B x q r) where

@@ -31,7 +31,7 @@ renumber numbers n = 2 * get_or numbers (n / 2) 0 + n % 2
 pub record Renumbered (numbers : List ℕ) (a : PlainAnswer) (a' : Answer) : Type 0 where
   pub symbols : a.symbols ≡ a'.symbols
   pub decisions : (i : ℕ) → i < length numbers → get_or a.decisions i Open ≡ get_or a'.decisions (get_or numbers i 0) Open
-  pub none-past : (i : ℕ) → length numbers ≤ i → get_or a.decisions i Open ≡ Open
+  pub none_past : (i : ℕ) → length numbers ≤ i → get_or a.decisions i Open ≡ Open
   pub no_others : (i' : ℕ) → ((i : ℕ) → i < length numbers → get_or numbers i 0 ≢ i') → get_or a'.decisions i' Open ≡ Open
   -- so the decision numbers of its record are those of the record alone, renumbered
   pub written : decision_numbers 0 a'.decisions ≡ map (renumber numbers) (decision_numbers 0 a.decisions)

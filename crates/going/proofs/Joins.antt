@@ -215,13 +215,13 @@ module _ (book asking : List ℕ) {r : Rules} {q : Expr} {p p' : ℕ} (admitted 
   listed : length (list_for (rooms_of m).places first.state.waiting) ≡ (rooms_of m).places
   listed = list_length (rooms_of m).places first.state.waiting accepted-first.places
 
-  same-places : (rooms_of m).places ≡ (rooms_of m').places
+  same_places : (rooms_of m).places ≡ (rooms_of m').places
   unfolding rooms_of ended_as
-  same-places = ap (λ (k : ℕ). min most_entries k)
+  same_places = ap (λ (k : ℕ). min most_entries k)
       (sym (over-length (list_for (rooms_of m).places first.state.waiting) m.list (omega (arith, listed, places-here))))
 
   accepted-again : AcceptedState r.symbols (rooms_of m') 0 first.state
-  accepted-again = other-room same_nodes same-places accepted-first
+  accepted-again = other-room same_nodes same_places accepted-first
 
   left : LeftIn 0 first.state o.result m'
   unfolding ended_as
@@ -229,7 +229,7 @@ module _ (book asking : List ℕ) {r : Rules} {q : Expr} {p p' : ℕ} (admitted 
     old_nodes = m.nodes;
     old_list = m.list;
     nodes = refl;
-    list = ap (λ (k : ℕ). over (list_for k first.state.waiting) m.list) same-places;
+    list = ap (λ (k : ℕ). over (list_for k first.state.waiting) m.list) same_places;
     turns = refl;
     answers = omega arith;
     used = refl;
@@ -292,7 +292,7 @@ module _ (book asking : List ℕ) {r : Rules} {q : Expr} {p p' : ℕ} (admitted 
   unfolding ended_as counted_on
   joined ended sum short short'' =
       let on = went_on sum in
-      let (number, state) = turns-joined B (rooms_of m) (rooms_of m') (rooms_of m'') room-nodes room-places (room-nodes ∙ same_nodes) (room-places ∙ same-places) a b (loaded q)
+      let (number, state) = turns-joined B (rooms_of m) (rooms_of m') (rooms_of m'') room-nodes room-places (room-nodes ∙ same_nodes) (room-places ∙ same_places) a b (loaded q)
       ended (λ z. short (ap (λ (x : Outcome). x.result.number) on ∙ z)) short'' in
       let answers : third.state.answers ≡ first.state.answers ++ second.state.answers = ap (λ (s : State). s.answers) state in
       let heap : third.state.heap ≡ second.state.heap = ap (λ (s : State). s.heap) state in
@@ -302,9 +302,9 @@ module _ (book asking : List ℕ) {r : Rules} {q : Expr} {p p' : ℕ} (admitted 
         nodes = over-over (heap_numbers first.state.heap) (heap_numbers second.state.heap) m.nodes longer
             ∙ ap (λ (h : Heap). over (heap_numbers h) m.nodes) (sym heap);
         list = over-over (list_for (rooms_of m).places first.state.waiting) (list_for (rooms_of m').places second.state.waiting) m.list
-            (omega (arith, listed, listed', same-places))
+            (omega (arith, listed, listed', same_places))
             ∙ ap (λ (l : List Entry). over (list_for (rooms_of m').places l) m.list) (sym waiting)
-            ∙ ap (λ (k : ℕ). over (list_for k third.state.waiting) m.list) (sym (room-places ∙ same-places));
+            ∙ ap (λ (k : ℕ). over (list_for k third.state.waiting) m.list) (sym (room-places ∙ same_places));
         first = first.state.answers;
         second = second.state.answers;
         counted = refl;

@@ -216,12 +216,12 @@ some-past (suc d) (suc made) w lt none l =
     ∙ ap (λ (x : ℕ). not (eqb x 0)) (shr-shr w 2 (2 * made) ∙ ap (λ (k : ℕ). w / 2 ^ k) twice)
 
 -- all are
-pub none-past : (d made w : ℕ) → both d w ≡ 0 → d ≤ made → some_from (bad_pair made w) 0 d ≡ false
+pub none_past : (d made w : ℕ) → both d w ≡ 0 → d ≤ made → some_from (bad_pair made w) 0 d ≡ false
 unfolding some_from
-none-past zero made w none le = refl
-none-past (suc d) zero w none le = absurd (omega arith)
-none-past (suc d) (suc made) w none le =
-    next-made made w d ∙ ap (λ (b : Bool). b || some_from (bad_pair made (w / 4)) 0 d) (made_pair d w none made) ∙ none-past d made (w / 4)
+none_past zero made w none le = refl
+none_past (suc d) zero w none le = absurd (omega arith)
+none_past (suc d) (suc made) w none le =
+    next-made made w d ∙ ap (λ (b : Bool). b || some_from (bad_pair made (w / 4)) 0 d) (made_pair d w none made) ∙ none_past d made (w / 4)
     (none-next d w none) (omega arith)
 
 -- the number that the code has

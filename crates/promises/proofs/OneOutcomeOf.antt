@@ -2,7 +2,7 @@
 -- the one that the kit makes of the `ensures` in the code, so an `ensures` that allows more is refused here. z and z' are the results of two calls, e and e'
 -- their parameters at exit. Of a slice that is handed out, and of one that is lent to be written, it is what it holds that is the same.
 use mathlib.Core.Path.{◌≡◌}
-use Rattle.limits.specs.contracts.Limits.all_open as all_open_lem
+use Rattle.limits.specs.contracts.Limits.all_open as all_open
 use Rattle.limits.specs.contracts.Decisions.side
 use Rattle.limits.specs.contracts.Decisions.decide
 use Rattle.limits.specs.contracts.Decisions.decided
@@ -19,7 +19,7 @@ use Rattle.reading.specs.contracts.byte_at as byte_at
 use Rattle.reading.specs.contracts.length_at as length_at
 use Rattle.symbols.specs.contracts.table.is_operation as is-operation
 use Rattle.symbols.specs.contracts.table.sort_of as sort-of
-use Rattle.symbols.specs.contracts.table.arguments_of as arguments_of_lem
+use Rattle.symbols.specs.contracts.table.arguments_of as arguments_of
 use Rattle.symbols.specs.contracts.table.arity_of as arity-of
 use Rattle.symbol_part.specs.contracts.read_symbol_part as read-symbol-part
 use Rattle.symbol_part.specs.contracts.symbols_read as symbols-read
@@ -54,8 +54,8 @@ use Rattle.promises.proofs.OneOutcome.{OneOutcome, OneResult, by_claim, one_valu
 use Rattle.promises.proofs.OneOutcome.{one-symbol-part, one_index, one_written, one-converted, one-listed, one-saved, one_added, one_less, one_figured, one-run, one_owned}
 
 -- crate `limits`
-pub all_open_one : OneResult all_open_lem.ended (λ M 𝓤 𝓛. all_open_lem.clauses 𝓛)
-all_open_one = by_claim all_open_lem.ended (λ κs a z z' e e'. one_set z z')
+pub all_open_one : OneResult all_open.ended (λ M 𝓤 𝓛. all_open.clauses 𝓛)
+all_open_one = by_claim all_open.ended (λ κs a z z' e e'. one_set z z')
 
 pub side_one : OneResult side.ended (λ M 𝓤 𝓛. side.clauses 𝓛)
 side_one = by_claim side.ended (λ κs a z z' e e'. one_value)
@@ -107,8 +107,8 @@ is-operation-one = by_claim is-operation.ended (λ κs a z z' e e'. one_value)
 pub sort_of_one : OneResult sort-of.ended (λ M 𝓤 𝓛. sort-of.clauses 𝓛)
 sort_of_one = by_claim sort-of.ended (λ κs a z z' e e'. one_value)
 
-pub arguments_of_one : OneOutcome arguments_of_lem.ended (λ κs z z' e e'. z.now ≡ z'.now) (λ M 𝓤 𝓛. arguments_of_lem.clauses 𝓛)
-arguments_of_one = by_claim arguments_of_lem.ended (λ κs a z z' e e'. one_bounded)
+pub arguments_of_one : OneOutcome arguments_of.ended (λ κs z z' e e'. z.now ≡ z'.now) (λ M 𝓤 𝓛. arguments_of.clauses 𝓛)
+arguments_of_one = by_claim arguments_of.ended (λ κs a z z' e e'. one_bounded)
 
 pub arity_of_one : OneResult arity-of.ended (λ M 𝓤 𝓛. arity-of.clauses 𝓛)
 arity_of_one = by_claim arity-of.ended (λ κs a z z' e e'. one_bounded)

@@ -365,8 +365,8 @@ module _ (s : List ℕ) (at : ℕ) (sum : Sum) (from to : List ℕ) (g : Going s
     count-done : count ≡ length g.terms
     count-done = omega (arith, ap length told-done, row_count_lem (record { headings = names; relations = g.relations }) count 0)
 
-    abbrev rows_told_lem : Terms
-    rows_told_lem = rows_told sum.headings sum.size from to
+    abbrev told_rows : Terms
+    told_rows = rows_told sum.headings sum.size from to
 
     size-done : sum.size ≡ length (laid (rules_for g.terms))
     size-done = omega (arith, g.held.size, book-bytes g.terms, ap all_bytes told-done)
@@ -381,7 +381,7 @@ module _ (s : List ℕ) (at : ℕ) (sum : Sum) (from to : List ℕ) (g : Going s
     rows-done = rows-held names g.relations from to count 0 (λ y low. g.held.rows y (omega arith)) ∙ sym told-done
 
     -- THE ROWS hold the terms of the listing.
-    fitting_done : Fitting rows_told_lem g.terms
+    fitting_done : Fitting told_rows g.terms
     fitting_done = record {
       none = refl;
       headings = many-done;
@@ -396,12 +396,12 @@ module _ (s : List ℕ) (at : ℕ) (sum : Sum) (from to : List ℕ) (g : Going s
       rows = rw (← count-done) rows-done;
     }
 
-    exact_done : rows_told_lem ≡ held_as g.terms
+    exact_done : told_rows ≡ held_as g.terms
     exact_done =
         ap (λ k. rows_told k sum.size from to) g.held.count
         ∙ held_exact g.terms from to count sum.size count-done size-done g.held.from_long g.held.to_long (omega (arith, g.few, count-done))
         g.held.opens g.held.rising places-done g.held.from_none (λ i high. g.held.to_none i (omega (arith, g.held.ends))) rows-done
 
-    pub told_fitting : Told rows_told_lem (broader_in s)
+    pub told_fitting : Told told_rows (broader_in s)
     told_fitting =
-        subst (λ (r : Reading Broader). Told rows_told_lem r) (sym g.good) (as_fitting rows_told_lem g.terms g.line none_passed exact_done fitting_done)
+        subst (λ (r : Reading Broader). Told told_rows r) (sym g.good) (as_fitting told_rows g.terms g.line none_passed exact_done fitting_done)

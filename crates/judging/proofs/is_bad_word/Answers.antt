@@ -3,7 +3,7 @@ use mathlib.Core.Path.{◌≡◌, sym, ap, ◌∙◌}
 use Prim.Native.Nat.{◌/◌}
 use native.Mathlib.Omega.{arith}
 use lib.Bits.{bit_and}
-use Rattle.judging.proofs.Pairs.{both, low_bits_lem, some-both, some-past, none-past}
+use Rattle.judging.proofs.Pairs.{both, low_bits_lem, some-both, some-past, none_past}
 use Rattle.judging.proofs.is_bad_word.Goals as goal
 
 pub returns-then-w-ne0 : goal.returns-then-w-ne0
@@ -20,4 +20,4 @@ pub returns-else-made-lt32 : goal.returns-else-made-lt32
 returns-else-made-lt32 c = let a = c.args in
     let w = a.w in
     let none : both 32 w ≡ 0 = ap (bit_and (bit_and w (w / 2))) low_bits_lem ∙ c.if-w-ne0.false in
-    sym (none-past 32 a.made w none c.if-made-lt32.false)
+    sym (none_past 32 a.made w none c.if-made-lt32.false)
