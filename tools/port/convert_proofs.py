@@ -1,5 +1,8 @@
 #!/usr/bin/env python3
-"""convert.py CRATE OLD NAMES OUT: turns Proof.antt of OLD (a proofs/ folder) into Invariants.antt and Answers.antt below OUT (a proofs/ folder), by the names in NAMES (names.json)."""
+"""Turns walks of an older Rattle (Proof.antt, "Tie as tie") into Invariants.antt and Answers.antt: for the port alone, run by step.sh.
+
+usage: convert_proofs.py CRATE OLD NAMES OUT    OLD and OUT are folders proofs/, NAMES is the names.json that `rt check --generated DIR --old-names` wrote
+"""
 import json, os, re, sys
 
 crate, OLD, NAMES, OUT = sys.argv[1:5]
