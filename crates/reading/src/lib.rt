@@ -3,21 +3,40 @@
 
 ghost use Rattle.std.specs.Prelude.{◌≡◌, ◌-◌, ◌<◌, ◌≤◌, get_or};
 ghost use Rattle.reading.specs.Bytes.{big_endian, byte_at, length_at};
-ghost use Rattle.reading.specs.Answer.{reading_of, base_of, part_of};
+ghost use Rattle.reading.specs.Answer.{reading_of, base_of, number_of, refusal_number, part_of};
 
-// What reading finds: what was read and the place behind it, or a refusal by number and place.
-#[derive(Clone, Copy)]
-pub enum Reading {
-    Got { value: usize, next: usize },
-    Refusal { number: u8, place: usize },
+// What is refused in a book or a question, numbered as document 01 has them.
+#[derive(Clone, Copy, Debug, PartialEq, Eq)]
+pub enum Fault {
+    // A size, a byte or a length past what encloses it, or bytes left over.
+    Extent = 1,
+    // The version byte.
+    Version = 2,
+    // A symbol, its kind, or a sort byte out of range.
+    Symbol = 3,
+    // A code, a symbol or a variable that is not there, a branch, the 65th node.
+    Code = 4,
+    // An expression's sort.
+    Sort = 5,
 }
 
 // Who asks: a rule of the book, or the question. It says in which of the two the bytes stand, and which refusals are given.
-#[derive(Clone, Copy)]
+#[derive(Clone, Copy, Debug, PartialEq, Eq)]
 pub enum Asker {
     Book,
     Question,
 }
+
+// A refusal: whose bytes are at fault, what is, and where.
+#[derive(Clone, Copy, Debug, PartialEq, Eq)]
+pub struct Refusal {
+    pub who: Asker,
+    pub fault: Fault,
+    pub place: usize,
+}
+
+// What reading finds: what was read, and the place behind it.
+pub type Reading = Result<(usize, usize), Refusal>;
 
 // Refusals of the question are those of the book and ten.
 pub fn base_of(who: Asker) -> u8
@@ -26,6 +45,35 @@ pub fn base_of(who: Asker) -> u8
     match who {
         Asker::Book => 0,
         Asker::Question => 10,
+    }
+}
+
+impl Fault {
+    // Its number in the book.
+    pub fn number(self) -> u8
+        ensures { (result ≡ number_of self) × (result ≤ 5) }
+    {
+        self as u8
+    }
+
+    // The refusal of who asks, at a place.
+    pub fn at(self, who: Asker, place: usize) -> Refusal
+        ensures { result ≡ record { who = who; fault = self; place = place } }
+    {
+        Refusal {
+            who,
+            fault: self,
+            place,
+        }
+    }
+}
+
+impl Refusal {
+    // Its number in document 01.
+    pub fn number(self) -> u8
+        ensures { (result ≡ refusal_number self) × (result ≤ 15) }
+    {
+        base_of(self.who) + self.fault.number()
     }
 }
 
@@ -82,16 +130,9 @@ pub fn byte_at(s: &[u8], who: Asker, e: usize, p: usize) -> Reading
     ensures { reading_of result ≡ byte_at s.now (base_of who) e p }
 {
     if e <= p {
-        Reading::Refusal {
-            number: base_of(who) + 1,
-            place: e,
-        }
-    } else {
-        Reading::Got {
-            value: wide_byte(s, p),
-            next: p + 1,
-        }
+        return Err(Fault::Extent.at(who, e));
     }
+    Ok((wide_byte(s, p), p + 1))
 }
 
 // A two-byte length of what stands in a part or item that ends at e: the end of what it opens.
@@ -100,21 +141,11 @@ pub fn length_at(s: &[u8], who: Asker, e: usize, p: usize) -> Reading
 {
     let room = between(p, e);
     if room < 2 {
-        return Reading::Refusal {
-            number: base_of(who) + 1,
-            place: e,
-        };
+        return Err(Fault::Extent.at(who, e));
     }
     let n = number(s, p);
     if room - 2 < n {
-        Reading::Refusal {
-            number: base_of(who) + 1,
-            place: p,
-        }
-    } else {
-        Reading::Got {
-            value: p + 2 + n,
-            next: p + 2,
-        }
+        return Err(Fault::Extent.at(who, p));
     }
+    Ok((p + 2 + n, p + 2))
 }
