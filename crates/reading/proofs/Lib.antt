@@ -1,3 +1,4 @@
 pub mod AtPlace
 pub mod Keeping
 pub mod Good
+pub mod Exits

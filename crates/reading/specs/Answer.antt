@@ -29,6 +29,11 @@ abbrev pub reading_of : Result (ℕ × ℕ) Refusal → Reading ℕ
 reading_of (Ok (value, next)) = got value next
 reading_of (Err r) = refusal (refusal_number r) r.place
 
+-- the same of an answer of which two numbers are told
+abbrev pub reading_by : {A : Type 0} → (A → ℕ × ℕ) → Result A Refusal → Reading ℕ
+reading_by told (Ok a) = got (told a).0 (told a).1
+reading_by told (Err r) = refusal (refusal_number r) r.place
+
 -- of what was read the code keeps a number
 unfoldable pub keeping : {A : Type 0} → (A → ℕ) → Reading A → Reading ℕ
 keeping number (got a p) = got (number a) p

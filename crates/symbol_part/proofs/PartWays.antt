@@ -1,5 +1,5 @@
 -- Reading the symbol part, one lemma for each way through the code.
-use mathlib.Core.List.{List, [], ◌∷◌}
+use mathlib.Core.List.{List, ◌∷◌}
 use mathlib.Core.Path.{◌≡◌, refl, sym, ap, subst, ◌∙◌}
 use Prim.Native.Nat.{ℕ, zero, suc, ◌+◌, ◌-◌, ◌<◌, ◌≤◌}
 use native.Mathlib.Nat.{add-zero, add-suc, suc-add, zero-add}
@@ -204,10 +204,9 @@ pub record PartKept (bs : List ℕ) (count next : ℕ) (is : List ℕ) : Type 0 
 
 module _ (bs : List ℕ) where
   -- the part is refused
-  pub part-refused : {c q : ℕ} {r : Reading ℕ} {places ranks : List ℕ} → symbol_part bs ≡ refusal c q
-      → r ≡ refusal c q → places ≡ in_array [] → ranks ≡ in_array [] → PartAnswered bs r places ranks
-  unfolding keeping places_after ranks_after
-  part-refused refused reading placed ranked = rw refused (reading, placed, ranked)
+  pub part-refused : {c q : ℕ} → symbol_part bs ≡ refusal c q → refusal c q ≡ keeping length (symbol_part bs)
+  unfolding keeping
+  part-refused refused = rw refused refl
 
   -- so it is where its opening is
   pub opening_refused : {c q : ℕ} → refusal c q ≡ opened bs → symbol_part bs ≡ refusal c q

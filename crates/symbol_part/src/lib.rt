@@ -1,29 +1,18 @@
 // The symbol part of a book, read once: how many symbols it has, where each stands, and the chains of constructors.
 #![tactic(auto)]
 
-ghost use Rattle.std.specs.Prelude.{◌≡◌, ℕ, ◌+◌, ◌-◌, ◌<◌, ◌≤◌, [], length, get_or, replicate};
-ghost use Rattle.reading.specs.declared.Reading.TheVariants.{Refusal};
+ghost use Rattle.std.specs.Prelude.{◌≡◌, ℕ, ◌+◌, ◌-◌, ◌<◌, ◌≤◌, length, get_or, IfOk};
+ghost use Rattle.symbol_part.specs.declared.SymbolPart.{SymbolPart};
 ghost use Rattle.limits.specs.Sizes.{most_book_bytes, most_symbols, sorts_of_a_byte};
-ghost use Rattle.reading.specs.Answer.{reading_of, keeping, nothing};
+ghost use Rattle.reading.specs.Answer.{reading_of, reading_by, keeping, nothing};
 ghost use Rattle.symbols.specs.Symbols.{Symbols};
 ghost use Rattle.symbols.specs.SymbolPart.{sorts_at, symbol_at, symbols_at, opened, symbol_part};
 ghost use Rattle.symbols.specs.SymbolsRead.{symbols_read_at, symbols_read};
 ghost use Rattle.symbols.specs.Table.{symbols_in, counted, PlacedAfter, ranks_from, nexts_from, firsts_from, in_array, places_after, ranks_after, nexts_after, firsts_after};
 
 use limits::Limits;
-use reading::{Asker, Reading, byte, byte_at, length_at, wide_byte};
+use reading::{Asker, Fault, Reading, Refusal, byte, byte_at, length_at, wide_byte};
 use symbols::table::{is_operation, sort_of};
-
-// The symbol part of a book: how many symbols there are and the place behind them, or the refusal; the place of each symbol; which of
-// its sort's constructors each is; and the chains of constructors. After a refusal all arrays are zeros.
-#[derive(Clone, Copy)]
-pub struct SymbolPart {
-    pub reading: Reading,
-    pub at: [u16; Limits::SYMBOLS],
-    pub ranks: [u16; Limits::SYMBOLS],
-    pub next: [u16; Limits::SYMBOLS],
-    pub first: [u16; Limits::SORTS_OF_A_BYTE],
-}
 
 // The constructors of each sort, chained: the number of the next one behind each symbol, and of the first of each sort. Where there is
 // none it is the count of symbols.
@@ -33,19 +22,27 @@ pub struct Chain {
     pub first: [u16; Limits::SORTS_OF_A_BYTE],
 }
 
+// The symbol part of a book: how many symbols there are and the place behind them; the place of each symbol; which of its sort's
+// constructors each is; and the chains of constructors.
+#[derive(Clone, Copy)]
+pub struct SymbolPart {
+    pub count: usize,
+    pub next: usize,
+    pub at: [u16; Limits::SYMBOLS],
+    pub ranks: [u16; Limits::SYMBOLS],
+    pub chain: Chain,
+}
+
 // n argument sorts from p on: the place behind them.
 fn read_sorts(s: &[u8], n: usize, p: usize) -> Reading
     requires { p + n ≤ length s.now }
     ensures { reading_of result ≡ keeping nothing (sorts_at s.now n p) }
 {
     if n == 0 {
-        return Reading::Got { value: 0, next: p };
+        return Ok((0, p));
     }
     if Limits::LAST_SORT < byte(s, p) {
-        return Reading::Refusal {
-            number: 3,
-            place: p,
-        };
+        return Err(Fault::Symbol.at(Asker::Book, p));
     }
     read_sorts(s, n - 1, p + 1)
 }
@@ -57,40 +54,22 @@ fn read_symbol(s: &[u8], e: usize, before: usize, p: usize) -> Reading
 {
     let n = wide_byte(s, p);
     if e < p + 1 + n {
-        return Reading::Refusal {
-            number: 1,
-            place: p,
-        };
+        return Err(Fault::Extent.at(Asker::Book, p));
     }
     if Limits::SYMBOLS <= before {
-        return Reading::Refusal {
-            number: 3,
-            place: p,
-        };
+        return Err(Fault::Symbol.at(Asker::Book, p));
     }
     if n < 2 {
-        return Reading::Refusal {
-            number: 3,
-            place: p,
-        };
+        return Err(Fault::Symbol.at(Asker::Book, p));
     }
     if 2 + Limits::ARGUMENTS < n {
-        return Reading::Refusal {
-            number: 3,
-            place: p,
-        };
+        return Err(Fault::Symbol.at(Asker::Book, p));
     }
     if 1 < byte(s, p + 1) {
-        return Reading::Refusal {
-            number: 3,
-            place: p + 1,
-        };
+        return Err(Fault::Symbol.at(Asker::Book, p + 1));
     }
     if Limits::LAST_SORT < byte(s, p + 2) {
-        return Reading::Refusal {
-            number: 3,
-            place: p + 2,
-        };
+        return Err(Fault::Symbol.at(Asker::Book, p + 2));
     }
     read_sorts(s, n - 2, p + 3)
 }
@@ -107,18 +86,11 @@ fn read_symbols(
     ensures { (bound : ℕ) → e - p ≤ bound → (reading_of result ≡ keeping (counted before) (symbols_at s.now bound e before p)) × PlacedAfter before p (symbols_at s.now bound e before p) at.old at.new }
 {
     if e <= p {
-        return Reading::Got {
-            value: before,
-            next: p,
-        };
+        return Ok((before, p));
     }
-    match read_symbol(s, e, before, p) {
-        Reading::Refusal { number, place } => Reading::Refusal { number, place },
-        Reading::Got { value: _, next } => {
-            at[before] = p as u16;
-            read_symbols(s, e, before + 1, next, at)
-        }
-    }
+    let (_, next) = read_symbol(s, e, before, p)?;
+    at[before] = p as u16;
+    read_symbols(s, e, before + 1, next, at)
 }
 
 // Size, version and length of the part: its end, and the place of its first symbol.
@@ -126,44 +98,20 @@ fn open_part(book: &[u8]) -> Reading
     ensures { reading_of result ≡ opened book.now }
 {
     if Limits::BOOK < book.len() {
-        return Reading::Refusal {
-            number: 1,
-            place: 0,
-        };
+        return Err(Fault::Extent.at(Asker::Book, 0));
     }
-    match byte_at(book, Asker::Book, book.len(), 0) {
-        Reading::Refusal { number, place } => Reading::Refusal { number, place },
-        Reading::Got {
-            value: version,
-            next,
-        } => {
-            if version == 0 {
-                return Reading::Refusal {
-                    number: 2,
-                    place: 0,
-                };
-            }
-            if 2 < version {
-                return Reading::Refusal {
-                    number: 2,
-                    place: 0,
-                };
-            }
-            match length_at(book, Asker::Book, book.len(), next) {
-                Reading::Refusal { number, place } => Reading::Refusal { number, place },
-                Reading::Got { value: e, next: q } => {
-                    if q == e {
-                        Reading::Refusal {
-                            number: 3,
-                            place: next,
-                        }
-                    } else {
-                        Reading::Got { value: e, next: q }
-                    }
-                }
-            }
-        }
+    let (version, next) = byte_at(book, Asker::Book, book.len(), 0)?;
+    if version == 0 {
+        return Err(Fault::Version.at(Asker::Book, 0));
     }
+    if 2 < version {
+        return Err(Fault::Version.at(Asker::Book, 0));
+    }
+    let (e, q) = length_at(book, Asker::Book, book.len(), next)?;
+    if q == e {
+        return Err(Fault::Symbol.at(Asker::Book, next));
+    }
+    Ok((e, q))
 }
 
 // Which of its sort's constructors each symbol is; 0 for an operation.
@@ -173,15 +121,12 @@ fn ranks_of(book: &[u8], at: &[u16]) -> [u16; Limits::SYMBOLS]
 {
     let mut ranks = [0u16; Limits::SYMBOLS];
     let mut seen = [0u16; Limits::SORTS_OF_A_BYTE];
-    let mut f: usize = 0;
-    while f < at.len() {
+    for f in 0..at.len() {
         if !is_operation(book, at, f) {
             let s = sort_of(book, at, f) as usize;
-            let k = seen[s];
-            ranks[f] = k;
-            seen[s] = k + 1;
+            ranks[f] = seen[s];
+            seen[s] += 1;
         }
-        f += 1;
     }
     ranks
 }
@@ -193,9 +138,7 @@ fn chain_of(book: &[u8], at: &[u16]) -> Chain
 {
     let mut next = [0u16; Limits::SYMBOLS];
     let mut first = [at.len() as u16; Limits::SORTS_OF_A_BYTE];
-    let mut f = at.len();
-    while f != 0 {
-        f -= 1;
+    for f in (0..at.len()).rev() {
         let s = sort_of(book, at, f) as usize;
         next[f] = first[s];
         if !is_operation(book, at, f) {
@@ -205,43 +148,22 @@ fn chain_of(book: &[u8], at: &[u16]) -> Chain
     Chain { next, first }
 }
 
-fn refused(number: u8, place: usize) -> SymbolPart
-    ensures { (result.reading ≡ Refusal number place) × (result.at ≡ in_array []) × (result.ranks ≡ in_array []) × (result.next ≡ in_array []) × (result.first ≡ replicate sorts_of_a_byte 0) }
+pub fn read_symbol_part(book: &[u8]) -> Result<SymbolPart, Refusal>
+    ensures reading { reading_by (λ (part : SymbolPart). (part.count, part.next)) result ≡ keeping length (symbol_part book.now) }
+    ensures arrays { IfOk result (λ (part : SymbolPart). (part.at ≡ places_after (symbol_part book.now)) × (part.ranks ≡ ranks_after (symbol_part book.now)) × (part.chain.next ≡ nexts_after (symbol_part book.now)) × (part.chain.first ≡ firsts_after (symbol_part book.now))) }
 {
-    SymbolPart {
-        reading: Reading::Refusal { number, place },
-        at: [0; Limits::SYMBOLS],
-        ranks: [0; Limits::SYMBOLS],
-        next: [0; Limits::SYMBOLS],
-        first: [0; Limits::SORTS_OF_A_BYTE],
-    }
-}
-
-pub fn read_symbol_part(book: &[u8]) -> SymbolPart
-    ensures { (reading_of result.reading ≡ keeping length (symbol_part book.now)) × (result.at ≡ places_after (symbol_part book.now)) × (result.ranks ≡ ranks_after (symbol_part book.now)) × (result.next ≡ nexts_after (symbol_part book.now)) × (result.first ≡ firsts_after (symbol_part book.now)) }
-{
-    match open_part(book) {
-        Reading::Refusal { number, place } => refused(number, place),
-        Reading::Got { value: e, next: q } => {
-            let mut at = [0u16; Limits::SYMBOLS];
-            match read_symbols(book, e, 0, q, &mut at) {
-                Reading::Refusal { number, place } => refused(number, place),
-                Reading::Got { value: count, next } => {
-                    let ranks = ranks_of(book, &at[0..count]);
-                    let chain = chain_of(book, &at[0..count]);
-                    let next_of = chain.next;
-                    let first = chain.first;
-                    SymbolPart {
-                        reading: Reading::Got { value: count, next },
-                        at,
-                        ranks,
-                        next: next_of,
-                        first,
-                    }
-                }
-            }
-        }
-    }
+    let (e, q) = open_part(book)?;
+    let mut at = [0u16; Limits::SYMBOLS];
+    let (count, next) = read_symbols(book, e, 0, q, &mut at)?;
+    let ranks = ranks_of(book, &at[0..count]);
+    let chain = chain_of(book, &at[0..count]);
+    Ok(SymbolPart {
+        count,
+        next,
+        at,
+        ranks,
+        chain,
+    })
 }
 
 // The count of symbols read whole, with `before` of them in front of p: the reading stops at a fault or at the part's end e.
@@ -253,11 +175,8 @@ fn count_symbols(s: &[u8], e: usize, before: usize, p: usize) -> usize
         return before;
     }
     match read_symbol(s, e, before, p) {
-        Reading::Refusal {
-            number: _,
-            place: _,
-        } => before,
-        Reading::Got { value: _, next } => count_symbols(s, e, before + 1, next),
+        Ok((_, next)) => count_symbols(s, e, before + 1, next),
+        Err(_) => before,
     }
 }
 
@@ -266,10 +185,7 @@ pub fn symbols_read(book: &[u8]) -> usize
     ensures { (result ≡ symbols_read book.now) × (result ≤ most_symbols) }
 {
     match open_part(book) {
-        Reading::Refusal {
-            number: _,
-            place: _,
-        } => 0,
-        Reading::Got { value: e, next: q } => count_symbols(book, e, 0, q),
+        Ok((e, q)) => count_symbols(book, e, 0, q),
+        Err(_) => 0,
     }
 }

@@ -12,7 +12,7 @@ returns-then-n-eq0 t c =
 pub returns-then-byte-gt-LAST_SORT : goal.returns-then-byte-gt-LAST_SORT
 returns-then-byte-gt-LAST_SORT t c =
     let a = c.args in
-    sorts_refused a.s.now a.n a.p c.if-n-eq0.false (omega arith)
+    rw c.at.ensures (sorts_refused a.s.now a.n a.p c.if-n-eq0.false (omega arith))
 
 pub returns : goal.returns
 returns t c =

@@ -59,4 +59,5 @@ loop-f-preserved c =
 pub returns : goal.returns
 returns c =
     let a = c.args in
-    chained-all (symbols_in a.book.now a.at.now) (rw c.loop-f-test.false at c.loop-f.invariant.1)
+    let first : c.loop-f.f ≡ 0 = omega arith in
+    chained-all (symbols_in a.book.now a.at.now) (rw first at c.loop-f.invariant.1)

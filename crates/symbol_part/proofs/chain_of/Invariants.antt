@@ -7,6 +7,3 @@ use Rattle.symbol_part.proofs.chain_of.Given as goal
 
 abbrev pub invariant-loop-f : goal.invariant-loop-f
 invariant-loop-f l = (l.f ≤ length l.at) × Chained (symbols_in l.book l.at) l.f l.next l.first
-
-abbrev pub decreases-loop-f : goal.decreases-loop-f
-decreases-loop-f l = l.f

@@ -7,32 +7,32 @@ use Rattle.symbol_part.proofs.read_symbol.Goals as goal
 pub returns-then-e-p : goal.returns-then-e-p
 returns-then-e-p c =
     let a = c.args in
-    symbol-past a.s.now a.e a.before a.p (omega arith)
+    rw c.at.ensures (symbol-past a.s.now a.e a.before a.p (omega arith))
 
 pub returns-then-before-ge-SYMBOLS : goal.returns-then-before-ge-SYMBOLS
 returns-then-before-ge-SYMBOLS c =
     let a = c.args in
-    symbol-over a.s.now a.e a.before a.p (omega arith) (omega arith)
+    rw c.at-then-before-ge-SYMBOLS.ensures (symbol-over a.s.now a.e a.before a.p (omega arith) (omega arith))
 
 pub returns-then-n-lt2 : goal.returns-then-n-lt2
 returns-then-n-lt2 c =
     let a = c.args in
-    symbol-short a.s.now a.e a.before a.p (omega arith) (omega arith) (omega arith)
+    rw c.at-then-n-lt2.ensures (symbol-short a.s.now a.e a.before a.p (omega arith) (omega arith) (omega arith))
 
 pub returns-then-n : goal.returns-then-n
 returns-then-n c =
     let a = c.args in
-    symbol-long a.s.now a.e a.before a.p (omega arith) (omega arith) (omega arith) (omega arith)
+    rw c.at-then-n.ensures (symbol-long a.s.now a.e a.before a.p (omega arith) (omega arith) (omega arith) (omega arith))
 
 pub returns-then-byte-gt1 : goal.returns-then-byte-gt1
 returns-then-byte-gt1 c =
     let a = c.args in
-    symbol_kind a.s.now a.e a.before a.p (omega arith) (omega arith) (omega arith) (omega arith) (omega arith)
+    rw c.at-then-byte-gt1.ensures (symbol_kind a.s.now a.e a.before a.p (omega arith) (omega arith) (omega arith) (omega arith) (omega arith))
 
 pub returns-then-byte-gt-LAST_SORT : goal.returns-then-byte-gt-LAST_SORT
 returns-then-byte-gt-LAST_SORT c =
     let a = c.args in
-    symbol-sort a.s.now a.e a.before a.p (omega arith) (omega arith) (omega arith) (omega arith) (omega arith) (omega arith)
+    rw c.at-then-byte-gt-LAST_SORT.ensures (symbol-sort a.s.now a.e a.before a.p (omega arith) (omega arith) (omega arith) (omega arith) (omega arith) (omega arith))
 
 pub returns : goal.returns
 returns c =
