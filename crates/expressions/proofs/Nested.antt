@@ -16,24 +16,6 @@ use Rattle.expressions.specs.ExpressionAt.{Left, ExprReader, left_of, shared_at,
 use Rattle.expressions.specs.Bodies.{body_with}
 use Rattle.expressions.proofs.Ways.{shared-within, expr-is-shared, expr_onward}
 
--- the place behind what was read; none is behind a refusal but the end
-abbrev pub behind : ℕ → Reading ℕ → ℕ
-behind e (got v n) = n
-behind e (refusal c n) = e
-
-pub behind_further : (e p q : ℕ) (r : Reading ℕ) → ((v n : ℕ) → r ≡ got v n → q ≤ n) → p < q → p < e → p < behind e r
-behind_further e p q (got v n) on h there = omega (arith, on v n refl)
-behind_further e p q (refusal c n) on h there = there
-
--- a body behind a first that was read, and behind one that was refused
-pub body_read : (expr : ExprReader) (sort v n : ℕ) {r first : Reading ℕ} → first ≡ got v n → r ≡ keeping left_of (expr sort v n) → r ≡ body_with expr sort first
-unfolding body_with ◌then◌
-body_read expr sort v n is read = rw is read
-
-pub body_refused : (expr : ExprReader) (sort c n : ℕ) {first : Reading ℕ} → first ≡ refusal c n → refusal c n ≡ body_with expr sort first
-unfolding body_with ◌then◌
-body_refused expr sort c n is = rw is
-
 -- a byte that is not 0 is there
 pub is-there : (bs : List ℕ) (q : ℕ) → get_or bs q 0 ≡ 4 → q < length bs
 is-there bs q is = by (dec_lt q (length bs))
@@ -143,23 +125,20 @@ module _ (bs : List ℕ) (base : ℕ) (S : Symbols) (e : ℕ) (vars : List ℕ) 
         inside = inside;
       }
 
-  -- a body behind what was read goes onward
-  body_onward : (f : ℕ) (more : List ℕ) (s q : ℕ) (r : Reading ℕ) → ((v n : ℕ) → r ≡ got v n → q ≤ n)
-      → (v n : ℕ) → body_with (expr_at bs base S e f more) s r ≡ got v n → q ≤ n
-  unfolding body_with ◌then◌
-  body_onward f more s q (got a m) on v n is = omega (arith, on a m refl, (expr_onward bs base S e more s a m f (sym is)).1)
-  body_onward f more s q (refusal c m) on v n is = absurd (let z : ◌≡◌ {A = ℕ} 0 1 = cc in omega arith)
+  -- what was refused behind it is refused
+  pub outward_refused : {q c n : ℕ} → Outward q (refusal c n) → (f : ℕ) → e ≤ p + 1 + f → refusal c n ≡ Whole f
+  outward_refused {c} {n} at f h = sym (at.whole f h ∙ outward_refusal f (suc at.count) c n)
 
-  -- what a body's reader gives behind what was read, at whatever depth is enough
-  abbrev Body : ℕ → ℕ → Reading ℕ → Reading ℕ → Type 0
-  Body t s r next = (f : ℕ) → ((v n : ℕ) → r ≡ got v n → e ≤ n + f) → next ≡ body_with (expr_at bs base S e f (vars ++ (t ∷ []))) s r
+  -- what a body's reader gives at r, with so many nodes left, at whatever depth is enough
+  abbrev Body : ℕ → ℕ → ℕ → ℕ → Reading ℕ → Type 0
+  Body t s l r next = (f : ℕ) → e ≤ r + f → next ≡ keeping left_of (expr_at bs base S e f (vars ++ (t ∷ [])) s l r)
 
   -- one body further out
-  pub outward_more : {q t s : ℕ} {r next : Reading ℕ} → Outward q r → p + 2 < q → t ≡ get_or bs (q - 2 + 1) 0 → s ≡ get_or bs (q - 2 - 1) 0 → Body t s r next → Outward (q - 2) next
-  unfolding outward body asked
-  outward_more {q} {t} {s} {r} {next} at further first_byte body-byte read = by at.count at.place at.whole
+  pub outward_more : {q t s l r : ℕ} {next : Reading ℕ} → Outward q (got l r) → p + 2 < q → t ≡ get_or bs (q - 2 + 1) 0 → s ≡ get_or bs (q - 2 - 1) 0 → Body t s l r next → Outward (q - 2) next
+  unfolding outward body asked body_with ◌then◌
+  outward_more {q} {t} {s} {l} {r} {next} at further first_byte body-byte read = by at.count at.place at.whole
     where
-      by : (k : ℕ) → q ≡ p + 2 * k + 2 → ((f : ℕ) → e ≤ p + 1 + f → Whole f ≡ outward f (suc k) r) → Outward (q - 2) next
+      by : (k : ℕ) → q ≡ p + 2 * k + 2 → ((f : ℕ) → e ≤ p + 1 + f → Whole f ≡ outward f (suc k) (got l r)) → Outward (q - 2) next
       by zero place whole = absurd (omega arith)
       by (suc k) place whole =
           let first : t ≡ asked (suc (suc k)) = first_byte ∙ ap (λ (n : ℕ). get_or bs n 0) (omega arith) in
@@ -168,22 +147,24 @@ module _ (bs : List ℕ) (base : ℕ) (S : Symbols) (e : ℕ) (vars : List ℕ) 
             count = k;
             place = omega arith;
             whole = λ f h.
-                whole f h ∙ ap (outward f (suc k)) (sym (read (f - suc k) (λ v n is. omega (arith, at.onward v n is))
-                ∙ ap (λ (x : ℕ). body_with (expr_at bs base S e (f - suc k) (vars ++ (x ∷ []))) s r) first
-                ∙ ap (λ (x : ℕ). body_with (expr_at bs base S e (f - suc k) (vars ++ (asked (suc (suc k)) ∷ []))) x r) around));
-            onward = λ v n is. omega (arith, body_onward e (vars ++ (t ∷ [])) s q r at.onward v n (sym (read e (λ w m _. omega arith)) ∙ is));
+                whole f h ∙ ap (outward f (suc k)) (sym (read (f - suc k) (omega (arith, at.onward l r refl))
+                ∙ ap (λ (x : ℕ). keeping left_of (expr_at bs base S e (f - suc k) (vars ++ (x ∷ [])) s l r)) first
+                ∙ ap (λ (x : ℕ). keeping left_of (expr_at bs base S e (f - suc k) (vars ++ (asked (suc (suc k)) ∷ [])) x l r)) around));
+            onward = λ v n is.
+                let further = expr_onward bs base S e (vars ++ (t ∷ [])) s l r e (sym is ∙ read e (omega arith)) in
+                omega (arith, at.onward l r refl, further.1);
             inside = omega (arith, at.inside);
           }
 
   -- the outermost
-  pub outward_last : {q t : ℕ} {r next : Reading ℕ} → Outward q r → q ≤ p + 2 → t ≡ get_or bs (p + 1) 0 → Body t sort r next → (f : ℕ) → e ≤ p + 1 + f → next ≡ Whole f
-  unfolding outward body asked
-  outward_last {q} {t} {r} {next} at last byte read f h = by at.count at.place (at.whole f h)
+  pub outward_last : {q t l r : ℕ} {next : Reading ℕ} → Outward q (got l r) → q ≤ p + 2 → t ≡ get_or bs (p + 1) 0 → Body t sort l r next → (f : ℕ) → e ≤ p + 1 + f → next ≡ Whole f
+  unfolding outward body asked body_with ◌then◌
+  outward_last {q} {t} {l} {r} {next} at last byte read f h = by at.count at.place (at.whole f h)
     where
-      by : (k : ℕ) → q ≡ p + 2 * k + 2 → Whole f ≡ outward f (suc k) r → next ≡ Whole f
+      by : (k : ℕ) → q ≡ p + 2 * k + 2 → Whole f ≡ outward f (suc k) (got l r) → next ≡ Whole f
       by zero place whole =
           let named : t ≡ asked 1 = byte ∙ ap (λ (n : ℕ). get_or bs n 0) (omega arith) in
-          read f (λ v n is. omega (arith, at.onward v n is))
-          ∙ sym (whole ∙ ap (λ (x : ℕ). body_with (expr_at bs base S e x (vars ++ (asked 1 ∷ []))) sort r) (sub-zero f)
-          ∙ ap (λ (x : ℕ). body_with (expr_at bs base S e f (vars ++ (x ∷ []))) sort r) (sym named))
+          read f (omega (arith, at.onward l r refl))
+          ∙ sym (whole ∙ ap (λ (x : ℕ). body_with (expr_at bs base S e x (vars ++ (asked 1 ∷ []))) sort (got l r)) (sub-zero f)
+          ∙ ap (λ (x : ℕ). keeping left_of (expr_at bs base S e f (vars ++ (x ∷ [])) sort l r)) (sym named))
       by (suc k) place whole = absurd (omega arith)

@@ -6,14 +6,12 @@
 ghost use Rattle.std.specs.Prelude.{[], ◌∷◌, ◌++◌, ◌≡◌, ℕ, ◌+◌, ◌<◌, ◌≤◌, length, take, drop};
 ghost use Rattle.limits.specs.Sizes.{most_variables};
 ghost use Rattle.reading.specs.Answer.{reading_of, keeping, base_of, part_of};
-ghost use Rattle.reading.specs.Reading.{got};
 ghost use Rattle.symbols.specs.Table.{symbols_in, arguments_of_a_byte};
 ghost use Rattle.expressions.specs.ExpressionAt.{left_of, variable_at, row_with, applied_at, shared_at, expr_at, whole_at};
 ghost use Rattle.expressions.specs.Whose.{whose};
-ghost use Rattle.expressions.specs.Bodies.{body_with};
 
 use limits::Limits;
-use reading::{Asker, Reading, base_of, between, byte, number, part_of, wide_byte};
+use reading::{Asker, Fault, Reading, between, byte, number, part_of, wide_byte};
 use symbols::table::{arguments_of, sort_of};
 
 // The part of one of two lent slices that holds an expression, by who asked.
@@ -32,28 +30,16 @@ fn read_variable(s: &[u8], who: Asker, vars: &[u8], sort: u8, left: usize, p: us
 {
     let e = s.len();
     if between(p, e) < 2 {
-        return Reading::Refusal {
-            number: base_of(who) + 1,
-            place: e,
-        };
+        return Err(Fault::Extent.at(who, e));
     }
     let x = wide_byte(s, p + 1);
     if vars.len() <= x {
-        return Reading::Refusal {
-            number: base_of(who) + 4,
-            place: p + 1,
-        };
+        return Err(Fault::Code.at(who, p + 1));
     }
     if vars[x] != sort {
-        return Reading::Refusal {
-            number: base_of(who) + 5,
-            place: p,
-        };
+        return Err(Fault::Sort.at(who, p));
     }
-    Reading::Got {
-        value: left,
-        next: p + 2,
-    }
+    Ok((left, p + 2))
 }
 
 // The symbol of an application whose code stands at p, of the sort asked for.
@@ -62,28 +48,16 @@ fn read_applied(book: &[u8], at: &[u16], s: &[u8], who: Asker, sort: u8, p: usiz
 {
     let e = s.len();
     if between(p, e) < 3 {
-        return Reading::Refusal {
-            number: base_of(who) + 1,
-            place: e,
-        };
+        return Err(Fault::Extent.at(who, e));
     }
     let f = number(s, p + 1);
     if at.len() <= f {
-        return Reading::Refusal {
-            number: base_of(who) + 4,
-            place: p + 1,
-        };
+        return Err(Fault::Code.at(who, p + 1));
     }
     if sort_of(book, at, f) != sort {
-        return Reading::Refusal {
-            number: base_of(who) + 5,
-            place: p,
-        };
+        return Err(Fault::Sort.at(who, p));
     }
-    Reading::Got {
-        value: f,
-        next: p + 3,
-    }
+    Ok((f, p + 3))
 }
 
 // The sorts of the variables bound, and of one more behind them.
@@ -92,16 +66,12 @@ fn with_one_more(vars: &[u8], sort: u8) -> [u8; Limits::VARIABLES]
     ensures { take (length vars.now + 1) result ≡ vars.now ++ (sort ∷ []) }
 {
     let mut more = [0u8; Limits::VARIABLES];
-    let mut j: usize = 0;
-    while j < vars.len() {
-        more[j] = vars[j];
-        j += 1;
-    }
-    more[j] = sort;
+    more[..vars.len()].copy_from_slice(vars);
+    more[vars.len()] = sort;
     more
 }
 
-// The body of a shared part of sort t, behind its first, with one variable more: the allowance left behind it, or the first's refusal.
+// The body of a shared part of sort t, at p behind its first, with one variable more: the allowance left behind it.
 #[cycle(read_body_read_expr_read_row_read_shared)]
 fn read_body(
     book: &[u8],
@@ -111,19 +81,15 @@ fn read_body(
     vars: &[u8],
     t: u8,
     sort: u8,
-    first: Reading,
+    left: usize,
+    p: usize,
 ) -> Reading
     requires { length vars.now < most_variables }
-    ensures { (f : ℕ) → ((v n : ℕ) → reading_of first ≡ got v n → length s.now ≤ n + f) → reading_of result ≡ body_with (expr_at s.now (base_of who) (symbols_in book.now at.now) (length s.now) f (vars.now ++ (t ∷ []))) sort (reading_of first) }
+    ensures { (f : ℕ) → length s.now ≤ p + f → reading_of result ≡ keeping left_of (expr_at s.now (base_of who) (symbols_in book.now at.now) (length s.now) f (vars.now ++ (t ∷ [])) sort left p) }
 {
-    match first {
-        Reading::Refusal { number, place } => Reading::Refusal { number, place },
-        Reading::Got { value, next } => {
-            let more = with_one_more(vars, t);
-            let bound = vars.len() + 1;
-            read_expr(book, at, s, who, &more[0..bound], sort, value, next)
-        }
-    }
+    let more = with_one_more(vars, t);
+    let bound = vars.len() + 1;
+    read_expr(book, at, s, who, &more[0..bound], sort, left, p)
 }
 
 // A shared part, whose code stands at p, and the body behind it, in which it is one variable more: the allowance left behind them.
@@ -145,42 +111,40 @@ fn read_shared(
 {
     let e = s.len();
     if byte(s, 0) != 2 {
-        return Reading::Refusal {
-            number: base_of(who) + 4,
-            place: p,
-        };
+        return Err(Fault::Code.at(who, p));
     }
     if Limits::VARIABLES <= vars.len() {
-        return Reading::Refusal {
-            number: base_of(who) + 4,
-            place: p,
-        };
+        return Err(Fault::Code.at(who, p));
     }
     let mut q = p;
     loop {
         if between(q, e) < 2 {
-            return Reading::Refusal {
-                number: base_of(who) + 1,
-                place: e,
-            };
+            return Err(Fault::Extent.at(who, e));
         }
         if Limits::LAST_SORT < byte(s, q + 1) {
-            return Reading::Refusal {
-                number: base_of(who) + 3,
-                place: q + 1,
-            };
+            return Err(Fault::Symbol.at(who, q + 1));
         }
         q += 2;
         if byte(s, q) != 4 {
             break;
         }
     }
-    let mut r = read_expr(book, at, s, who, vars, byte(s, q - 1), left, q);
+    let (mut rest, mut next) = read_expr(book, at, s, who, vars, byte(s, q - 1), left, q)?;
     while p + 2 < q {
         q -= 2;
-        r = read_body(book, at, s, who, vars, byte(s, q + 1), byte(s, q - 1), r);
+        (rest, next) = read_body(
+            book,
+            at,
+            s,
+            who,
+            vars,
+            byte(s, q + 1),
+            byte(s, q - 1),
+            rest,
+            next,
+        )?;
     }
-    read_body(book, at, s, who, vars, byte(s, p + 1), sort, r)
+    read_body(book, at, s, who, vars, byte(s, p + 1), sort, rest, next)
 }
 
 // An expression of the sort asked for, at p of an item that is all of s: the allowance left behind it.
@@ -199,10 +163,7 @@ fn read_expr(
 {
     let e = s.len();
     if e <= p {
-        return Reading::Refusal {
-            number: base_of(who) + 1,
-            place: e,
-        };
+        return Err(Fault::Extent.at(who, e));
     }
     let code = byte(s, p);
     if code == 0 {
@@ -212,34 +173,21 @@ fn read_expr(
         return read_shared(book, at, s, who, vars, sort, left, p);
     }
     if 3 < code {
-        return Reading::Refusal {
-            number: base_of(who) + 4,
-            place: p,
-        };
+        return Err(Fault::Code.at(who, p));
     }
     if left == 0 {
-        return Reading::Refusal {
-            number: base_of(who) + 4,
-            place: p,
-        };
+        return Err(Fault::Code.at(who, p));
     }
     if code == 3 {
-        return Reading::Got {
-            value: left - 1,
-            next: p + 1,
-        };
+        return Ok((left - 1, p + 1));
     }
     if code == 2 {
         let both = [sort, sort];
         return read_row(book, at, s, who, vars, &both, left - 1, p + 1);
     }
-    match read_applied(book, at, s, who, sort, p) {
-        Reading::Refusal { number, place } => Reading::Refusal { number, place },
-        Reading::Got { value: f, next } => {
-            let sorts = arguments_of(book, at, f);
-            read_row(book, at, s, who, vars, sorts, left - 1, next)
-        }
-    }
+    let (f, next) = read_applied(book, at, s, who, sort, p)?;
+    let sorts = arguments_of(book, at, f);
+    read_row(book, at, s, who, vars, sorts, left - 1, next)
 }
 
 // A row of expressions, one for each of the sorts: the allowance left behind it.
@@ -257,16 +205,11 @@ fn read_row(
     requires { length sorts.now ≤ arguments_of_a_byte }
     ensures { (f : ℕ) → length s.now ≤ p + f → reading_of result ≡ keeping left_of (row_with (expr_at s.now (base_of who) (symbols_in book.now at.now) (length s.now) f vars.now) sorts.now left p) }
 {
-    if sorts.len() == 0 {
-        return Reading::Got {
-            value: left,
-            next: p,
-        };
+    if sorts.is_empty() {
+        return Ok((left, p));
     }
-    match read_expr(book, at, s, who, vars, sorts[0], left, p) {
-        Reading::Refusal { number, place } => Reading::Refusal { number, place },
-        Reading::Got { value, next } => read_row(book, at, s, who, vars, &sorts[1..], value, next),
-    }
+    let (left, next) = read_expr(book, at, s, who, vars, sorts[0], left, p)?;
+    read_row(book, at, s, who, vars, &sorts[1..], left, next)
 }
 
 // A whole expression, in an item that ends at e: what is left of the nodes that it may have.

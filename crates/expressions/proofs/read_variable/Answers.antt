@@ -1,4 +1,5 @@
 -- `read_variable` meets its contract: it refuses where the byte is not there, the variable is not bound or its sort is wrong.
+use mathlib.Core.Path.{refl}
 use native.Mathlib.Omega.{arith}
 use lib.ListN.{length}
 use Rattle.reading.specs.Answer.{base_of}
@@ -8,19 +9,19 @@ use Rattle.expressions.proofs.read_variable.Goals as goal
 pub returns-then-between-lt2 : goal.returns-then-between-lt2
 returns-then-between-lt2 c =
     let a = c.args in
-    variable-past a.s.now (base_of a.who) (length a.s.now) a.vars.now a.sort a.left a.p c.base_of.ensures.0 (omega arith)
+    rw c.at.ensures (variable-past a.s.now (base_of a.who) (length a.s.now) a.vars.now a.sort a.left a.p refl (omega arith))
 
 pub returns-then-vars-x : goal.returns-then-vars-x
 returns-then-vars-x c =
     let a = c.args in
-    variable_unbound a.s.now (base_of a.who) (length a.s.now) a.vars.now a.sort a.left a.p
-    c.wide_byte-x.ensures.0 (omega arith) c.base_of-then-vars-x.ensures.0 c.if-vars-x.true
+    rw c.at-then-vars-x.ensures (variable_unbound a.s.now (base_of a.who) (length a.s.now) a.vars.now a.sort a.left a.p
+    c.wide_byte-x.ensures.0 (omega arith) refl c.if-vars-x.true)
 
 pub returns-then-vars-x-2 : goal.returns-then-vars-x-2
 returns-then-vars-x-2 c =
     let a = c.args in
-    variable-other a.s.now (base_of a.who) (length a.s.now) a.vars.now a.sort a.left a.p
-    c.wide_byte-x.ensures.0 (omega arith) c.if-vars-x.false c.base_of-then-vars-x-2.ensures.0 c.if-vars-x-2.true
+    rw c.at-then-vars-x-2.ensures (variable-other a.s.now (base_of a.who) (length a.s.now) a.vars.now a.sort a.left a.p
+    c.wide_byte-x.ensures.0 (omega arith) c.if-vars-x.false refl c.if-vars-x-2.true)
 
 pub returns : goal.returns
 returns c =
