@@ -3,7 +3,7 @@ use mathlib.Core.List.{List, [], ◌∷◌, ◌++◌}
 use mathlib.Core.Path.{◌≡◌, refl, sym, ap, ◌∙◌}
 use Prim.Native.Nat.{ℕ, zero, suc, ◌+◌, ◌-◌, ◌*◌, ◌/◌, ◌%◌, ◌<◌, ◌≤◌}
 use native.Mathlib.Nat.{not-suc-le-zero}
-use native.Mathlib.Numerals.{add-one, sub-one}
+use native.Mathlib.Numerals.{add-one}
 use native.Mathlib.Omega.{arith}
 use lib.ListN.{length, get_or, take, drop, length-take, length-drop, take-append-drop, drop_of_length-le}
 use lib.Seq.{drop-drop}
@@ -32,14 +32,16 @@ module _ (i w k : ℕ) where
   unfolding bits_from
   bit_unset e = rw (ne_eqb (w % 2) 1 e, bits_from)
 
--- the same in the code's words
-pub next-set : (i w left : ℕ) → (left ≡ 0 → ⊥) → w % 2 ≡ 1 → bits_from i w left ≡ i ∷ bits_from (i + 1) (w / 2) (left - 1)
-next-set i w zero some_left e = absurd (some_left refl)
-next-set i w (suc k) some_left e = rw (add-one, sub-one) (bit_set i w k e)
+-- the same in the code's words, where the bits are numbered from i up to `end`
+module _ (i end w : ℕ) (some_left : i < end) where
+  one_more : end - i ≡ suc (end - suc i)
+  one_more = omega arith
 
-pub next_unset : (i w left : ℕ) → (left ≡ 0 → ⊥) → (w % 2 ≡ 1 → ⊥) → bits_from i w left ≡ bits_from (i + 1) (w / 2) (left - 1)
-next_unset i w zero some_left e = absurd (some_left refl)
-next_unset i w (suc k) some_left e = rw (add-one, sub-one) (bit_unset i w k e)
+  pub next-set : w % 2 ≡ 1 → bits_from i w (end - i) ≡ i ∷ bits_from (i + 1) (w / 2) (end - (i + 1))
+  next-set e = rw add-one (ap (bits_from i w) one_more ∙ bit_set i w (end - suc i) e)
+
+  pub next_unset : (w % 2 ≡ 1 → ⊥) → bits_from i w (end - i) ≡ bits_from (i + 1) (w / 2) (end - (i + 1))
+  next_unset e = rw add-one (ap (bits_from i w) one_more ∙ bit_unset i w (end - suc i) e)
 
 -- the two lowest bits, by the side that they say, and the others
 module _ (first w k : ℕ) where

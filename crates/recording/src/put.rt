@@ -41,7 +41,7 @@ pub(crate) fn put_symbols(
         return p;
     }
     let n = end_of(nodes, used, arrow);
-    if kind_at(nodes, n) != Kind::APPLY {
+    if kind_at(nodes, n) != Kind::Apply as u16 {
         return p;
     }
     let f = label_at(nodes, n);
@@ -90,9 +90,7 @@ fn put_word(bytes: &mut [u8], word: u64, first: u16, from: usize) -> usize
 {
     let mut p = from;
     let mut w = word;
-    let mut i = first;
-    let mut left: usize = 64;
-    while left != 0 {
+    for i in first..first + 64 {
         if w == 0 {
             return p;
         }
@@ -100,8 +98,6 @@ fn put_word(bytes: &mut [u8], word: u64, first: u16, from: usize) -> usize
             p = put_two(bytes, p, i);
         }
         w = w / 2;
-        i = i + 1;
-        left -= 1;
     }
     p
 }
@@ -111,10 +107,7 @@ pub(crate) fn put_decisions(bytes: &mut [u8], ds: Decisions, from: usize)
     ensures { DecisionsTold bytes.old ds.words from bytes.new }
 {
     let mut p = from;
-    let mut i: usize = 0;
-    while i < Limits::WORDS {
-        let w = ds.words[i];
-        p = put_word(bytes, w, (64 * i) as u16, p);
-        i += 1;
+    for (i, w) in ds.words.iter().enumerate() {
+        p = put_word(bytes, *w, (64 * i) as u16, p);
     }
 }

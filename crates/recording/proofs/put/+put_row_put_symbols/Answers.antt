@@ -34,12 +34,12 @@ put_symbols-returns-then-depth-eq0 t c =
     let a = c.args in
     λ h held inside fits. rw (none_at_zero a.depth h a.arrow c.if-depth-eq0.true) (numbers-none a.bytes.now a.p)
 
-pub put_symbols-returns-then-kind_at-ne-APPLY : goal.put_symbols-returns-then-kind_at-ne-APPLY
-put_symbols-returns-then-kind_at-ne-APPLY t c =
+pub put_symbols-returns-then-kind_at : goal.put_symbols-returns-then-kind_at
+put_symbols-returns-then-kind_at t c =
     let a = c.args in
     let node = c.follow-n in
     λ h held inside fits.
-    rw (none-at-others held a.arrow node.result inside node.ensures a.depth (λ k. c.if-kind_at-ne-APPLY.true (c.kind_at.ensures ∙ k)))
+    rw (none-at-others held a.arrow node.result inside node.ensures a.depth (λ k. c.if-kind_at.true (c.kind_at.ensures ∙ k)))
     (numbers-none a.bytes.now a.p)
 
 pub put_symbols-returns : goal.put_symbols-returns
@@ -52,7 +52,7 @@ put_symbols-returns t c =
     λ h held inside fits.
     let found =
     some-at-apply held a.arrow node.result inside node.ensures a.depth c.if-depth-eq0.false
-    (sym c.kind_at.ensures ∙ c.if-kind_at-ne-APPLY.false) in
+    (sym c.kind_at.ensures ∙ c.if-kind_at.false) in
     let label = c.label_at-f.ensures in
     let many = arity.ensures.0 ∙ ap (arity_in a.shapes.now) label ∙ found.many in
     let all = symbols_from a.depth h a.arrow in

@@ -1,8 +1,6 @@
--- What the loops of `put_decisions` keep.
-use mathlib.Core.Path.{◌≡◌}
-use Prim.Native.Nat.{◌+◌, ◌-◌, ◌*◌, ◌≤◌}
+-- What the loop of `put_decisions` keep.
+use Prim.Native.Nat.{◌+◌, ◌*◌, ◌≤◌}
 use lib.ListN.{length, drop}
-use Rattle.limits.specs.Sizes.{words_of_set}
 use Rattle.limits.specs.Decisions.{Decisions, decided}
 use Rattle.machine.specs.Answers.{decision_numbers}
 use Rattle.standing.specs.Held.{Decided}
@@ -11,9 +9,5 @@ use Rattle.recording.proofs.put.put_decisions.Given as goal
 
 abbrev pub invariant-loop-i : goal.invariant-loop-i
 invariant-loop-i l =
-    (l.i ≤ words_of_set) × (length l.bytes ≡ length l.initial.bytes)
-    × ((sides : Decisions) → Decided l.ds.words sides → l.from + 2 * decided sides ≤ length l.initial.bytes
-    → Begun l.initial.bytes l.from (decision_numbers 0 sides) l.bytes l.p (decision_numbers (32 * l.i) (drop (32 * l.i) sides)))
-
-abbrev pub decreases-loop-i : goal.decreases-loop-i
-decreases-loop-i l = words_of_set - l.i
+    (sides : Decisions) → Decided l.fn.ds.words sides → l.from + 2 * decided sides ≤ length l.initial.bytes
+    → Begun l.initial.bytes l.from (decision_numbers 0 sides) l.bytes l.p (decision_numbers (32 * l.i) (drop (32 * l.i) sides))
