@@ -81,21 +81,21 @@ impl Refusal {
 pub fn between(from: usize, to: usize) -> usize
     ensures { result ≡ to - from }
 {
-    if from < to { to - from } else { 0 }
+    to.saturating_sub(from)
 }
 
 // The byte at a place, 0 past the end.
 pub fn byte(s: &[u8], p: usize) -> u8
     ensures { result ≡ get_or s.now p 0 }
 {
-    if p < s.len() { s[p] } else { 0 }
+    s.get(p).copied().unwrap_or(0)
 }
 
 // The same as a wide number.
 pub fn wide_byte(s: &[u8], p: usize) -> usize
     ensures { (result ≡ get_or s.now p 0) × (result < 256) }
 {
-    byte(s, p) as usize
+    usize::from(byte(s, p))
 }
 
 // The number whose two bytes stand at a place.

@@ -9,7 +9,7 @@ use reading::{between, byte, part_of, wide_byte};
 fn place_of(at: &[u16], f: usize) -> usize
     ensures { (result ≡ get_or at.now f 0) × (result < 65536) }
 {
-    if f < at.len() { at[f] as usize } else { 0 }
+    usize::from(at.get(f).copied().unwrap_or(0))
 }
 
 pub fn is_operation(book: &[u8], at: &[u16], f: usize) -> bool
