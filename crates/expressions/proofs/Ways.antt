@@ -8,8 +8,7 @@ use native.Mathlib.Numerals.{sub-one}
 use native.Mathlib.Omega.{arith}
 use borrow.Author.Tests.{leb-false, le-leb, lt-leb, lt-ltb, le-ltb, eq-eqb, ne_eqb}
 use lib.Dec.{leb, ltb, eqb}
-use lib.ListN.{length, get_or, take, drop, length-drop}
-use lib.Seq.{take_all}
+use lib.ListN.{length, get_or, take, drop}
 use Rattle.limits.specs.Sizes.{most_variables, last_sort}
 use Rattle.reading.specs.Reading.{Reading, got, refusal, ◌then◌, refuse◌at◌if◌else◌}
 use Rattle.reading.specs.Bytes.{version_of, big_endian, byte_at, number_at}
@@ -46,32 +45,34 @@ choice-row expr sort left p = kept_then (expr sort left (p + 1)) _ _ λ a q.
     let second = expr sort a.left q in
     left-made (Expr.choice a.what) second ∙ sym (left-made (more_exprs a.what) (row_with expr (sort ∷ []) a.left q) ∙ left-made (λ x. more_exprs x no_exprs) second)
 
--- the part of a list behind its first
-pub behind-first : (sorts : List ℕ) → part_of sorts 1 (length sorts) ≡ drop 1 sorts
-behind-first sorts = take_all (length sorts - 1) (drop 1 sorts) (omega (arith, length-drop 1 sorts))
-
+-- A row of which the first j are read.
 module _ (expr : ExprReader) where
-  -- no sorts, no expressions
-  pub row-none : (sorts : List ℕ) (left p : ℕ) → length sorts ≡ 0 → got left p ≡ keeping left_of (row_with expr sorts left p)
+  -- no sorts are left, and no expressions
+  pub row-none : (sorts : List ℕ) (j left p : ℕ) → length sorts ≤ j → got left p ≡ keeping left_of (row_with expr (drop j sorts) left p)
   unfolding row_with keeping
-  row-none [] left p h = refl
-  row-none (s ∷ sorts) left p h = absurd (omega arith)
+  row-none [] zero left p h = refl
+  row-none [] (suc j) left p h = refl
+  row-none (s ∷ sorts) zero left p h = absurd (omega arith)
+  row-none (s ∷ sorts) (suc j) left p h = row-none sorts j left p (omega arith)
 
-  -- the first expression is refused
-  pub row-refused : (sorts : List ℕ) (left p : ℕ) {c q : ℕ} → (length sorts ≡ 0 → ⊥) → refusal c q ≡ keeping left_of (expr (get_or sorts 0 0) left p)
-      → refusal c q ≡ keeping left_of (row_with expr sorts left p)
+  -- the next expression is refused
+  pub row-refused : (sorts : List ℕ) (j left p : ℕ) {c q : ℕ} → j < length sorts → refusal c q ≡ keeping left_of (expr (get_or sorts j 0) left p)
+      → refusal c q ≡ keeping left_of (row_with expr (drop j sorts) left p)
   unfolding row_with keeping
-  row-refused [] left p some first = absurd (omega arith)
-  row-refused (s ∷ sorts) left p some first = ap (keeping left_of) (sym (then-refusal _ (kept-refusal left_of (expr s left p) first)))
+  row-refused [] j left p some next = absurd (omega arith)
+  row-refused (s ∷ sorts) zero left p some next = ap (keeping left_of) (sym (then-refusal _ (kept-refusal left_of (expr s left p) next)))
+  row-refused (s ∷ sorts) (suc j) left p some next = row-refused sorts j left p (omega arith) next
 
-  -- the first is read, and the others behind it
-  pub row_more : (sorts : List ℕ) (left p : ℕ) {v q : ℕ} {r : Reading ℕ} → (length sorts ≡ 0 → ⊥) → got v q ≡ keeping left_of (expr (get_or sorts 0 0) left p)
-      → r ≡ keeping left_of (row_with expr (part_of sorts 1 (length sorts)) v q) → r ≡ keeping left_of (row_with expr sorts left p)
+  -- the next is read, and the others stand behind it
+  pub row_more : (sorts : List ℕ) (j left p : ℕ) {v q : ℕ} → j < length sorts → got v q ≡ keeping left_of (expr (get_or sorts j 0) left p)
+      → keeping left_of (row_with expr (drop j sorts) left p) ≡ keeping left_of (row_with expr (drop (suc j) sorts) v q)
   unfolding row_with
-  row_more [] left p some first rest = absurd (omega arith)
-  row_more (s ∷ sorts) left p {q} some first rest =
-      let a = kept-got left_of (expr s left p) first in
-      simp (behind-first (s ∷ sorts), a.2) at rest ∙ sym (ap (keeping left_of) (then-got _ a.1) ∙ left-made (more_exprs a.0.what) (row_with expr sorts a.0.left q))
+  row_more [] j left p some next = absurd (omega arith)
+  row_more (s ∷ sorts) zero left p {v} {q} some next =
+      let a = kept-got left_of (expr s left p) next in
+      ap (keeping left_of) (then-got _ a.1) ∙ left-made (more_exprs a.0.what) (row_with expr sorts a.0.left q)
+      ∙ ap (λ (l : ℕ). keeping left_of (row_with expr sorts l q)) (sym a.2)
+  row_more (s ∷ sorts) (suc j) left p some next = row_more sorts j left p (omega arith) next
 
 module _ (bs : List ℕ) (base e : ℕ) (vars : List ℕ) (sort left p : ℕ) where
   -- the item ends before the variable's byte

@@ -2,3 +2,4 @@ pub mod Expressions
 pub mod ExpressionAt
 pub mod Whose
 pub mod Bodies
+pub mod Items

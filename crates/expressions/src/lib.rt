@@ -3,11 +3,12 @@
 // however many bytes there are, the calls stand no deeper than the 64 nodes and 32 variables of a path let them.
 #![tactic(auto)]
 
-ghost use Rattle.std.specs.Prelude.{[], ◌∷◌, ◌++◌, ◌≡◌, ℕ, ◌+◌, ◌<◌, ◌≤◌, length, take, drop};
+ghost use Rattle.std.specs.Prelude.{[], ◌∷◌, ◌++◌, ◌≡◌, ℕ, ◌+◌, ◌<◌, ◌≤◌, length, take};
 ghost use Rattle.limits.specs.Sizes.{most_variables};
 ghost use Rattle.reading.specs.Answer.{reading_of, keeping, base_of, part_of};
-ghost use Rattle.symbols.specs.Table.{symbols_in, arguments_of_a_byte};
-ghost use Rattle.expressions.specs.ExpressionAt.{left_of, variable_at, row_with, applied_at, shared_at, expr_at, whole_at};
+ghost use Rattle.symbols.specs.Table.{symbols_in};
+ghost use Rattle.expressions.specs.ExpressionAt.{left_of, row_with, whole_at};
+ghost use Rattle.expressions.specs.Items.{variable_in, applied_in, shared_in, expr_in};
 ghost use Rattle.expressions.specs.Whose.{whose};
 
 use limits::Limits;
@@ -24,40 +25,13 @@ fn part<'a>(book: &'a [u8], question: &'a [u8], who: Asker, from: usize, to: usi
     }
 }
 
-// A variable, whose code stands at p, of the sort asked for; `vars` are the sorts of those bound on the path.
-fn read_variable(s: &[u8], who: Asker, vars: &[u8], sort: u8, left: usize, p: usize) -> Reading
-    ensures { reading_of result ≡ keeping left_of (variable_at s.now (base_of who) (length s.now) vars.now sort left p) }
-{
-    let e = s.len();
-    if between(p, e) < 2 {
-        return Err(Fault::Extent.at(who, e));
-    }
-    let x = wide_byte(s, p + 1);
-    if vars.len() <= x {
-        return Err(Fault::Code.at(who, p + 1));
-    }
-    if vars[x] != sort {
-        return Err(Fault::Sort.at(who, p));
-    }
-    Ok((left, p + 2))
-}
-
-// The symbol of an application whose code stands at p, of the sort asked for.
-fn read_applied(book: &[u8], at: &[u16], s: &[u8], who: Asker, sort: u8, p: usize) -> Reading
-    ensures { reading_of result ≡ applied_at s.now (base_of who) (symbols_in book.now at.now) (length s.now) sort p }
-{
-    let e = s.len();
-    if between(p, e) < 3 {
-        return Err(Fault::Extent.at(who, e));
-    }
-    let f = number(s, p + 1);
-    if at.len() <= f {
-        return Err(Fault::Code.at(who, p + 1));
-    }
-    if sort_of(book, at, f) != sort {
-        return Err(Fault::Sort.at(who, p));
-    }
-    Ok((f, p + 3))
+// An item that is all of s, in the book or in a question, and the book's symbols, whose places are `at`.
+#[derive(Clone, Copy)]
+struct Item<'a> {
+    book: &'a [u8],
+    at: &'a [u16],
+    s: &'a [u8],
+    who: Asker,
 }
 
 // The sorts of the variables bound, and of one more behind them.
@@ -71,145 +45,140 @@ fn with_one_more(vars: &[u8], sort: u8) -> [u8; Limits::VARIABLES]
     more
 }
 
-// The body of a shared part of sort t, at p behind its first, with one variable more: the allowance left behind it.
-#[cycle(read_body_read_expr_read_row_read_shared)]
-fn read_body(
-    book: &[u8],
-    at: &[u16],
-    s: &[u8],
-    who: Asker,
-    vars: &[u8],
-    t: u8,
-    sort: u8,
-    left: usize,
-    p: usize,
-) -> Reading
-    requires { length vars.now < most_variables }
-    ensures { (f : ℕ) → length s.now ≤ p + f → reading_of result ≡ keeping left_of (expr_at s.now (base_of who) (symbols_in book.now at.now) (length s.now) f (vars.now ++ (t ∷ [])) sort left p) }
-{
-    let more = with_one_more(vars, t);
-    let bound = vars.len() + 1;
-    read_expr(book, at, s, who, &more[0..bound], sort, left, p)
-}
-
-// A shared part, whose code stands at p, and the body behind it, in which it is one variable more: the allowance left behind them.
-// Shared parts may stand directly in each other as deep as there are bytes, so no call is made for each: their codes and sort bytes are
-// read inward, then what stands in the innermost, then the bodies outward.
-#[cycle(read_body_read_expr_read_row_read_shared)]
-fn read_shared(
-    book: &[u8],
-    at: &[u16],
-    s: &[u8],
-    who: Asker,
-    vars: &[u8],
-    sort: u8,
-    left: usize,
-    p: usize,
-) -> Reading
-    requires { p < length s.now }
-    ensures { (f : ℕ) → length s.now ≤ p + 1 + f → reading_of result ≡ keeping left_of (shared_at s.now (base_of who) (symbols_in book.now at.now) (length s.now) (expr_at s.now (base_of who) (symbols_in book.now at.now) (length s.now) f) vars.now sort left p) }
-{
-    let e = s.len();
-    if byte(s, 0) != 2 {
-        return Err(Fault::Code.at(who, p));
-    }
-    if Limits::VARIABLES <= vars.len() {
-        return Err(Fault::Code.at(who, p));
-    }
-    let mut q = p;
-    loop {
-        if between(q, e) < 2 {
-            return Err(Fault::Extent.at(who, e));
+impl<'a> Item<'a> {
+    // A variable, whose code stands at p, of the sort asked for; `vars` are the sorts of those bound on the path.
+    fn read_variable(&self, vars: &[u8], sort: u8, left: usize, p: usize) -> Reading
+        ensures { reading_of result ≡ keeping left_of (variable_in self.now vars.now sort left p) }
+    {
+        let e = self.s.len();
+        if between(p, e) < 2 {
+            return Err(Fault::Extent.at(self.who, e));
         }
-        if Limits::LAST_SORT < byte(s, q + 1) {
-            return Err(Fault::Symbol.at(who, q + 1));
+        let x = wide_byte(self.s, p + 1);
+        if vars.len() <= x {
+            return Err(Fault::Code.at(self.who, p + 1));
         }
-        q += 2;
-        if byte(s, q) != 4 {
-            break;
+        if vars[x] != sort {
+            return Err(Fault::Sort.at(self.who, p));
         }
+        Ok((left, p + 2))
     }
-    let (mut rest, mut next) = read_expr(book, at, s, who, vars, byte(s, q - 1), left, q)?;
-    while p + 2 < q {
-        q -= 2;
-        (rest, next) = read_body(
-            book,
-            at,
-            s,
-            who,
-            vars,
-            byte(s, q + 1),
-            byte(s, q - 1),
-            rest,
-            next,
-        )?;
-    }
-    read_body(book, at, s, who, vars, byte(s, p + 1), sort, rest, next)
-}
 
-// An expression of the sort asked for, at p of an item that is all of s: the allowance left behind it.
-#[cycle(read_body_read_expr_read_row_read_shared)]
-fn read_expr(
-    book: &[u8],
-    at: &[u16],
-    s: &[u8],
-    who: Asker,
-    vars: &[u8],
-    sort: u8,
-    left: usize,
-    p: usize,
-) -> Reading
-    ensures { (f : ℕ) → length s.now ≤ p + f → reading_of result ≡ keeping left_of (expr_at s.now (base_of who) (symbols_in book.now at.now) (length s.now) f vars.now sort left p) }
-{
-    let e = s.len();
-    if e <= p {
-        return Err(Fault::Extent.at(who, e));
+    // The symbol of an application whose code stands at p, of the sort asked for.
+    fn read_applied(&self, sort: u8, p: usize) -> Reading
+        ensures { reading_of result ≡ applied_in self.now sort p }
+    {
+        let e = self.s.len();
+        if between(p, e) < 3 {
+            return Err(Fault::Extent.at(self.who, e));
+        }
+        let f = number(self.s, p + 1);
+        if self.at.len() <= f {
+            return Err(Fault::Code.at(self.who, p + 1));
+        }
+        if sort_of(self.book, self.at, f) != sort {
+            return Err(Fault::Sort.at(self.who, p));
+        }
+        Ok((f, p + 3))
     }
-    let code = byte(s, p);
-    if code == 0 {
-        return read_variable(s, who, vars, sort, left, p);
-    }
-    if code == 4 {
-        return read_shared(book, at, s, who, vars, sort, left, p);
-    }
-    if 3 < code {
-        return Err(Fault::Code.at(who, p));
-    }
-    if left == 0 {
-        return Err(Fault::Code.at(who, p));
-    }
-    if code == 3 {
-        return Ok((left - 1, p + 1));
-    }
-    if code == 2 {
-        let both = [sort, sort];
-        return read_row(book, at, s, who, vars, &both, left - 1, p + 1);
-    }
-    let (f, next) = read_applied(book, at, s, who, sort, p)?;
-    let sorts = arguments_of(book, at, f);
-    read_row(book, at, s, who, vars, sorts, left - 1, next)
-}
 
-// A row of expressions, one for each of the sorts: the allowance left behind it.
-#[cycle(read_body_read_expr_read_row_read_shared)]
-fn read_row(
-    book: &[u8],
-    at: &[u16],
-    s: &[u8],
-    who: Asker,
-    vars: &[u8],
-    sorts: &[u8],
-    left: usize,
-    p: usize,
-) -> Reading
-    requires { length sorts.now ≤ arguments_of_a_byte }
-    ensures { (f : ℕ) → length s.now ≤ p + f → reading_of result ≡ keeping left_of (row_with (expr_at s.now (base_of who) (symbols_in book.now at.now) (length s.now) f vars.now) sorts.now left p) }
-{
-    if sorts.is_empty() {
-        return Ok((left, p));
+    // The body of a shared part of sort t, at p behind its first, with one variable more: the allowance left behind it.
+    #[cycle(reading)]
+    fn read_body(&self, vars: &[u8], t: u8, sort: u8, left: usize, p: usize) -> Reading
+        requires { length vars.now < most_variables }
+        ensures { (f : ℕ) → length self.now.s.now ≤ p + f → reading_of result ≡ keeping left_of (expr_in self.now f (vars.now ++ (t ∷ [])) sort left p) }
+    {
+        let more = with_one_more(vars, t);
+        let bound = vars.len() + 1;
+        self.read_expr(&more[..bound], sort, left, p)
     }
-    let (left, next) = read_expr(book, at, s, who, vars, sorts[0], left, p)?;
-    read_row(book, at, s, who, vars, &sorts[1..], left, next)
+
+    // A shared part, whose code stands at p, and the body behind it, in which it is one variable more: the allowance left behind them.
+    // Shared parts may stand directly in each other as deep as there are bytes, so no call is made for each: their codes and sort bytes
+    // are read inward, then what stands in the innermost, then the bodies outward.
+    #[cycle(reading)]
+    fn read_shared(&self, vars: &[u8], sort: u8, left: usize, p: usize) -> Reading
+        requires { p < length self.now.s.now }
+        ensures { (f : ℕ) → length self.now.s.now ≤ p + 1 + f → reading_of result ≡ keeping left_of (shared_in self.now f vars.now sort left p) }
+    {
+        let e = self.s.len();
+        if byte(self.s, 0) != 2 {
+            return Err(Fault::Code.at(self.who, p));
+        }
+        if Limits::VARIABLES <= vars.len() {
+            return Err(Fault::Code.at(self.who, p));
+        }
+        let mut q = p;
+        'inward: loop {
+            if between(q, e) < 2 {
+                return Err(Fault::Extent.at(self.who, e));
+            }
+            if Limits::LAST_SORT < byte(self.s, q + 1) {
+                return Err(Fault::Symbol.at(self.who, q + 1));
+            }
+            q += 2;
+            if byte(self.s, q) != 4 {
+                break;
+            }
+        }
+        let (mut rest, mut next) = self.read_expr(vars, byte(self.s, q - 1), left, q)?;
+        'outward: while p + 2 < q {
+            q -= 2;
+            (rest, next) = self.read_body(
+                vars,
+                byte(self.s, q + 1),
+                byte(self.s, q - 1),
+                rest,
+                next,
+            )?;
+        }
+        self.read_body(vars, byte(self.s, p + 1), sort, rest, next)
+    }
+
+    // An expression of the sort asked for, at p: the allowance left behind it.
+    #[cycle(reading)]
+    fn read_expr(&self, vars: &[u8], sort: u8, left: usize, p: usize) -> Reading
+        ensures { (f : ℕ) → length self.now.s.now ≤ p + f → reading_of result ≡ keeping left_of (expr_in self.now f vars.now sort left p) }
+    {
+        let e = self.s.len();
+        if e <= p {
+            return Err(Fault::Extent.at(self.who, e));
+        }
+        let code = byte(self.s, p);
+        if code == 0 {
+            return self.read_variable(vars, sort, left, p);
+        }
+        if code == 4 {
+            return self.read_shared(vars, sort, left, p);
+        }
+        if 3 < code {
+            return Err(Fault::Code.at(self.who, p));
+        }
+        if left == 0 {
+            return Err(Fault::Code.at(self.who, p));
+        }
+        if code == 3 {
+            return Ok((left - 1, p + 1));
+        }
+        if code == 2 {
+            return self.read_row(vars, &[sort, sort], left - 1, p + 1);
+        }
+        let (f, next) = self.read_applied(sort, p)?;
+        self.read_row(vars, arguments_of(self.book, self.at, f), left - 1, next)
+    }
+
+    // A row of expressions, one for each of the sorts: the allowance left behind it.
+    #[cycle(reading)]
+    fn read_row(&self, vars: &[u8], sorts: &[u8], left: usize, p: usize) -> Reading
+        ensures { (f : ℕ) → length self.now.s.now ≤ p + f → reading_of result ≡ keeping left_of (row_with (expr_in self.now f vars.now) sorts.now left p) }
+    {
+        let mut rest = left;
+        let mut next = p;
+        for sort in sorts {
+            (rest, next) = self.read_expr(vars, *sort, rest, next)?;
+        }
+        Ok((rest, next))
+    }
 }
 
 // A whole expression, in an item that ends at e: what is left of the nodes that it may have.
@@ -226,5 +195,6 @@ pub fn read_whole<'a>(
     ensures { reading_of result ≡ keeping left_of (whole_at (part_of (whose who book.now question.now) 0 e) (base_of who) (symbols_in book.now at.now) (length (part_of (whose who book.now question.now) 0 e)) vars.now sort p) }
 {
     let s = part(book, question, who, 0, e);
-    read_expr(book, at, s, who, vars, sort, Limits::EXPRESSION, p)
+    let item = Item { book, at, s, who };
+    item.read_expr(vars, sort, Limits::EXPRESSION, p)
 }

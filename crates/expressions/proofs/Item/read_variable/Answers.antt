@@ -4,27 +4,31 @@ use native.Mathlib.Omega.{arith}
 use lib.ListN.{length}
 use Rattle.reading.specs.Answer.{base_of}
 use Rattle.expressions.proofs.Ways.{variable-past, variable_unbound, variable-other, variable-got}
-use Rattle.expressions.proofs.read_variable.Goals as goal
+use Rattle.expressions.proofs.Item.read_variable.Goals as goal
 
 pub returns-then-between-lt2 : goal.returns-then-between-lt2
 returns-then-between-lt2 c =
     let a = c.args in
-    rw c.at.ensures (variable-past a.s.now (base_of a.who) (length a.s.now) a.vars.now a.sort a.left a.p refl (omega arith))
+    let i = a.self.now in
+    rw c.at.ensures (variable-past i.s.now (base_of i.who) (length i.s.now) a.vars.now a.sort a.left a.p refl (omega arith))
 
 pub returns-then-vars-x : goal.returns-then-vars-x
 returns-then-vars-x c =
     let a = c.args in
-    rw c.at-then-vars-x.ensures (variable_unbound a.s.now (base_of a.who) (length a.s.now) a.vars.now a.sort a.left a.p
+    let i = a.self.now in
+    rw c.at-then-vars-x.ensures (variable_unbound i.s.now (base_of i.who) (length i.s.now) a.vars.now a.sort a.left a.p
     c.wide_byte-x.ensures.0 (omega arith) refl c.if-vars-x.true)
 
 pub returns-then-vars-x-2 : goal.returns-then-vars-x-2
 returns-then-vars-x-2 c =
     let a = c.args in
-    rw c.at-then-vars-x-2.ensures (variable-other a.s.now (base_of a.who) (length a.s.now) a.vars.now a.sort a.left a.p
+    let i = a.self.now in
+    rw c.at-then-vars-x-2.ensures (variable-other i.s.now (base_of i.who) (length i.s.now) a.vars.now a.sort a.left a.p
     c.wide_byte-x.ensures.0 (omega arith) c.if-vars-x.false refl c.if-vars-x-2.true)
 
 pub returns : goal.returns
 returns c =
     let a = c.args in
-    variable-got a.s.now (base_of a.who) (length a.s.now) a.vars.now a.sort a.left a.p
+    let i = a.self.now in
+    variable-got i.s.now (base_of i.who) (length i.s.now) a.vars.now a.sort a.left a.p
     c.wide_byte-x.ensures.0 (omega arith) c.if-vars-x.false c.if-vars-x-2.false

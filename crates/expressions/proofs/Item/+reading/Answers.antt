@@ -1,0 +1,207 @@
+-- `read_expr`, `read_row`, `read_shared` and `read_body` meet their contracts: at whatever depth is enough, each is one level of the definition over the
+-- others; `read_shared` as many levels as shared parts stand directly in each other, whose codes it reads inward and whose bodies outward.
+use Prim.Native.Nat.{ℕ, ◌+◌}
+use mathlib.Core.Path.{◌≡◌, refl, sym, ap, ◌∙◌}
+use native.Mathlib.Numerals.{add-one}
+use native.Mathlib.Omega.{arith}
+use lib.ListN.{length, get_or}
+use mathlib.Core.List.{List}
+use Rattle.std.proofs.lemmas.Result.{err_from_is_err_and}
+use Rattle.reading.specs.Answer.{keeping, base_of}
+use Rattle.expressions.specs.Items.{symbols_of, expr_in}
+use Rattle.expressions.specs.ExpressionAt.{left_of}
+use Rattle.expressions.proofs.Ways.{expr-past, expr-variable, expr-shared, expr-refused, expr-fail, expr-choice, expr-not-applied, expr-applied, expr_onward, applied-arguments, applied-behind}
+use Rattle.expressions.proofs.Ways.{shared-first-edition, shared-many, shared-past, shared-sort}
+use Rattle.expressions.proofs.Nested.{is-there, inward_none, inward_refused, inward_within, within_inward, within-read, outward_refused, outward_more, outward_last}
+use Rattle.expressions.proofs.Ways.{row-none, row-refused, row_more}
+use Rattle.expressions.proofs.Item.+reading.Goals as goal
+
+pub read_expr-returns-then-e-p : goal.read_expr-returns-then-e-p
+read_expr-returns-then-e-p t c =
+    let a = c.args in
+    let i = a.self.now in
+    λ f h. rw c.at.ensures (expr-past i.s.now (base_of i.who) (symbols_of i) (length i.s.now) a.vars.now a.sort a.left a.p f h refl c.if-e-p.true)
+
+pub read_expr-returns-then-code-eq0 : goal.read_expr-returns-then-code-eq0
+read_expr-returns-then-code-eq0 t c =
+    let a = c.args in
+    let i = a.self.now in
+    λ f h. expr-variable i.s.now (base_of i.who) (symbols_of i) (length i.s.now) a.vars.now a.sort a.left a.p f h c.if-e-p.false (omega arith) c.read_variable.ensures
+
+pub read_expr-returns-then-code-eq4 : goal.read_expr-returns-then-code-eq4
+read_expr-returns-then-code-eq4 t c =
+    let a = c.args in
+    let i = a.self.now in
+    λ f h. expr-shared i.s.now (base_of i.who) (symbols_of i) (length i.s.now) a.vars.now a.sort a.left a.p f h c.if-e-p.false (omega arith) c.read_shared.ensures
+
+pub read_expr-returns-then-code-gt3 : goal.read_expr-returns-then-code-gt3
+read_expr-returns-then-code-gt3 t c =
+    let a = c.args in
+    let i = a.self.now in
+    λ f h. rw c.at-then-code-gt3.ensures (expr-refused i.s.now (base_of i.who) (symbols_of i) (length i.s.now) a.vars.now a.sort a.left a.p f h c.if-e-p.false refl (omega arith) (omega arith) (λ known. omega arith))
+
+pub read_expr-returns-then-left-eq0 : goal.read_expr-returns-then-left-eq0
+read_expr-returns-then-left-eq0 t c =
+    let a = c.args in
+    let i = a.self.now in
+    λ f h. rw c.at-then-left-eq0.ensures (expr-refused i.s.now (base_of i.who) (symbols_of i) (length i.s.now) a.vars.now a.sort a.left a.p f h c.if-e-p.false refl (omega arith) (omega arith) (λ known. c.if-left-eq0.true))
+
+pub read_expr-returns-then-code-eq3 : goal.read_expr-returns-then-code-eq3
+read_expr-returns-then-code-eq3 t c =
+    let a = c.args in
+    let i = a.self.now in
+    λ f h. expr-fail i.s.now (base_of i.who) (symbols_of i) (length i.s.now) a.vars.now a.sort a.left a.p f h c.if-e-p.false (omega arith) (omega arith)
+
+pub read_expr-returns-then-code-eq2 : goal.read_expr-returns-then-code-eq2
+read_expr-returns-then-code-eq2 t c =
+    let a = c.args in
+    let i = a.self.now in
+    λ f h. expr-choice i.s.now (base_of i.who) (symbols_of i) (length i.s.now) a.vars.now a.sort a.left a.p f h c.if-e-p.false (omega arith) (omega arith) c.read_row.ensures
+
+pub read_expr-read_row-requires-2 : goal.read_expr-read_row-requires-2
+read_expr-read_row-requires-2 t c =
+    let a = c.args in
+    let i = a.self.now in
+    let behind = applied-behind i.s.now (base_of i.who) (symbols_of i) (length i.s.now) a.sort a.p c.in_ok-f.ensures in
+    (omega (arith, behind), omega arith)
+
+pub read_expr-returns-in_err-f : goal.read_expr-returns-in_err-f
+read_expr-returns-in_err-f t c =
+    let a = c.args in
+    let i = a.self.now in
+    let r = err_from_is_err_and c.from_residual.result c.from_residual.ensures.1 in
+    λ f h. rw (r.1, r.2) (expr-not-applied i.s.now (base_of i.who) (symbols_of i) (length i.s.now) a.vars.now a.sort a.left a.p f h c.if-e-p.false (omega arith) (omega arith) c.in_err-f.ensures)
+
+pub read_expr-returns : goal.read_expr-returns
+read_expr-returns t c =
+    let a = c.args in
+    let i = a.self.now in
+    let arguments = applied-arguments i.book.now i.at.now i.s.now (base_of i.who) (length i.s.now) a.sort a.p c.in_ok-f.ensures in
+    λ f h. expr-applied i.s.now (base_of i.who) (symbols_of i) (length i.s.now) a.vars.now a.sort a.left a.p f h c.if-e-p.false (omega arith) (omega arith)
+    c.in_ok-f.ensures (c.arguments_of.ensures.0 ∙ arguments) c.read_row-2.ensures
+
+pub read_row-loop-sort-init : goal.read_row-loop-sort-init
+read_row-loop-sort-init t c = (omega arith, λ f h. refl)
+
+pub read_row-read_expr-requires : goal.read_row-read_expr-requires
+read_row-read_expr-requires t c =
+    let l = c.loop-sort in
+    (omega (arith, l.invariant.0), tt)
+
+pub read_row-returns-in_err-rest : goal.read_row-returns-in_err-rest
+read_row-returns-in_err-rest t c =
+    let a = c.args in
+    let i = a.self.now in
+    let l = c.loop-sort in
+    let r = err_from_is_err_and c.from_residual.result c.from_residual.ensures.1 in
+    λ f h. rw (r.1, r.2) (row-refused (expr_in i f a.vars.now) a.sorts.now l.sort-index l.rest l.next c.loop-sort-test.true (c.in_err-rest.ensures f (omega (arith, l.invariant.0))) ∙ sym (l.invariant.1 f h))
+
+pub read_row-loop-sort-preserved : goal.read_row-loop-sort-preserved
+read_row-loop-sort-preserved t c =
+    let a = c.args in
+    let i = a.self.now in
+    let l = c.loop-sort in
+    let read = c.in_ok-rest.ensures in
+    let onward = expr_onward i.s.now (base_of i.who) (symbols_of i) (length i.s.now) a.vars.now (get_or a.sorts.now l.sort-index 0) l.rest l.next (length i.s.now) (read (length i.s.now) (omega arith)) in (
+      omega (arith, l.invariant.0, onward.1),
+      λ f h. l.invariant.1 f h ∙ rw add-one (row_more (expr_in i f a.vars.now) a.sorts.now l.sort-index l.rest l.next c.loop-sort-test.true (read f (omega (arith, l.invariant.0)))),
+    )
+
+pub read_row-returns : goal.read_row-returns
+read_row-returns t c =
+    let a = c.args in
+    let i = a.self.now in
+    let l = c.loop-sort in
+    λ f h. row-none (expr_in i f a.vars.now) a.sorts.now l.sort-index l.rest l.next c.loop-sort-test.false ∙ sym (l.invariant.1 f h)
+
+pub read_body-returns : goal.read_body-returns
+read_body-returns t c =
+    let a = c.args in
+    λ f h. c.read_expr.ensures f h ∙ ap (λ (v : List ℕ). keeping left_of (expr_in a.self.now f v a.sort a.left a.p)) c.with_one_more-more.ensures
+
+pub read_shared-returns-then-byte-ne2 : goal.read_shared-returns-then-byte-ne2
+read_shared-returns-then-byte-ne2 t c =
+    let a = c.args in
+    let i = a.self.now in
+    λ f h. rw c.at.ensures (shared-first-edition i.s.now (base_of i.who) (symbols_of i) (length i.s.now) (expr_in i f) a.vars.now a.sort a.left a.p refl (omega arith))
+
+pub read_shared-returns-then-vars-ge-VARIABLES : goal.read_shared-returns-then-vars-ge-VARIABLES
+read_shared-returns-then-vars-ge-VARIABLES t c =
+    let a = c.args in
+    let i = a.self.now in
+    λ f h. rw c.at-then-vars-ge-VARIABLES.ensures (shared-many i.s.now (base_of i.who) (symbols_of i) (length i.s.now) (expr_in i f) a.vars.now a.sort a.left a.p (omega arith) refl (omega arith))
+
+pub read_shared-inward-init : goal.read_shared-inward-init
+read_shared-inward-init t c =
+    let a = c.args in
+    let i = a.self.now in
+    inward_none i.s.now (base_of i.who) (symbols_of i) (length i.s.now) a.vars.now a.sort a.left a.p
+
+pub read_shared-returns-then-between-lt2 : goal.read_shared-returns-then-between-lt2
+read_shared-returns-then-between-lt2 t c =
+    let a = c.args in
+    let i = a.self.now in
+    let l = c.inward in
+    λ f h. rw c.at-then-between-lt2.ensures (inward_refused i.s.now (base_of i.who) (symbols_of i) (length i.s.now) a.vars.now a.sort a.left a.p l.invariant (λ expr s. shared-past i.s.now (base_of i.who) (symbols_of i) (length i.s.now) expr a.vars.now s a.left l.q (omega arith) (omega arith) refl (omega arith)) f h)
+
+pub read_shared-returns-then-byte-gt-LAST_SORT : goal.read_shared-returns-then-byte-gt-LAST_SORT
+read_shared-returns-then-byte-gt-LAST_SORT t c =
+    let a = c.args in
+    let i = a.self.now in
+    let l = c.inward in
+    λ f h. rw c.at-then-byte-gt-LAST_SORT.ensures (inward_refused i.s.now (base_of i.who) (symbols_of i) (length i.s.now) a.vars.now a.sort a.left a.p l.invariant (λ expr s. shared-sort i.s.now (base_of i.who) (symbols_of i) (length i.s.now) expr a.vars.now s a.left l.q (omega arith) (omega arith) c.byte-in-inward.ensures (omega arith) refl (omega arith)) f h)
+
+pub read_shared-inward-preserved : goal.read_shared-inward-preserved
+read_shared-inward-preserved t c =
+    let a = c.args in
+    let i = a.self.now in
+    let l = c.inward in
+    let within = inward_within i.s.now (base_of i.who) (symbols_of i) (length i.s.now) a.vars.now a.sort a.left a.p l.invariant (omega arith) (omega arith) c.byte-in-inward.ensures (omega arith) (omega arith) in
+    let code : get_or i.s.now (l.q + 2) 0 ≡ 4 = omega arith in
+    within_inward i.s.now (base_of i.who) (symbols_of i) (length i.s.now) a.vars.now a.sort a.left a.p within code (is-there i.s.now (l.q + 2) code)
+
+pub read_shared-returns-in_err-rest : goal.read_shared-returns-in_err-rest
+read_shared-returns-in_err-rest t c =
+    let a = c.args in
+    let i = a.self.now in
+    let l = c.inward in
+    let r = err_from_is_err_and c.from_residual.result c.from_residual.ensures.1 in
+    let within = inward_within i.s.now (base_of i.who) (symbols_of i) (length i.s.now) a.vars.now a.sort a.left a.p l.invariant (omega arith) (omega arith) c.byte-in-inward.ensures (omega arith) (omega arith) in
+    let refused = within-read i.s.now (base_of i.who) (symbols_of i) (length i.s.now) a.vars.now a.sort a.left a.p within (omega arith) c.byte-2.ensures c.in_err-rest.ensures in
+    λ f h. rw (r.1, r.2) (outward_refused i.s.now (base_of i.who) (symbols_of i) (length i.s.now) a.vars.now a.sort a.left a.p refused f h)
+
+pub read_shared-outward-init : goal.read_shared-outward-init
+read_shared-outward-init t c =
+    let a = c.args in
+    let i = a.self.now in
+    let l = c.inward in
+    let within = inward_within i.s.now (base_of i.who) (symbols_of i) (length i.s.now) a.vars.now a.sort a.left a.p l.invariant (omega arith) (omega arith) c.byte-in-inward.ensures (omega arith) (omega arith) in
+    within-read i.s.now (base_of i.who) (symbols_of i) (length i.s.now) a.vars.now a.sort a.left a.p within (omega arith) c.byte-2.ensures c.in_ok-rest.ensures
+
+pub read_shared-read_body-requires : goal.read_shared-read_body-requires
+read_shared-read_body-requires t c =
+    let l = c.outward in
+    (omega (arith, l.invariant.place, l.invariant.onward l.rest l.next refl), omega arith)
+
+pub read_shared-returns-in_err-rest-2 : goal.read_shared-returns-in_err-rest-2
+read_shared-returns-in_err-rest-2 t c =
+    let a = c.args in
+    let i = a.self.now in
+    let l = c.outward in
+    let r = err_from_is_err_and c.from_residual-in_err-rest-2.result c.from_residual-in_err-rest-2.ensures.1 in
+    let refused = outward_more i.s.now (base_of i.who) (symbols_of i) (length i.s.now) a.vars.now a.sort a.left a.p l.invariant c.outward-test.true c.byte-in-outward.ensures c.byte-in-outward-2.ensures c.in_err-rest-2.ensures in
+    λ f h. rw (r.1, r.2) (outward_refused i.s.now (base_of i.who) (symbols_of i) (length i.s.now) a.vars.now a.sort a.left a.p refused f h)
+
+pub read_shared-outward-preserved : goal.read_shared-outward-preserved
+read_shared-outward-preserved t c =
+    let a = c.args in
+    let i = a.self.now in
+    let l = c.outward in
+    outward_more i.s.now (base_of i.who) (symbols_of i) (length i.s.now) a.vars.now a.sort a.left a.p l.invariant c.outward-test.true c.byte-in-outward.ensures c.byte-in-outward-2.ensures c.in_ok-rest-2.ensures
+
+pub read_shared-returns : goal.read_shared-returns
+read_shared-returns t c =
+    let a = c.args in
+    let i = a.self.now in
+    let l = c.outward in
+    outward_last i.s.now (base_of i.who) (symbols_of i) (length i.s.now) a.vars.now a.sort a.left a.p l.invariant c.outward-test.false c.byte-3.ensures c.read_body-2.ensures
