@@ -18,7 +18,6 @@ pub mod OneTurn
 pub mod TurnKeeps
 pub mod RowRings
 pub mod OnTheRow
-pub mod Laying
 pub mod Gathering
 pub mod Preparing
 pub mod RunEnds

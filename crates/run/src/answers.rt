@@ -39,7 +39,7 @@ fn put_symbols(
         return p;
     }
     let n = follow(nodes, used, arrow);
-    if kind_at(nodes, n) != Kind::APPLY {
+    if kind_at(nodes, n) != Kind::Apply as u16 {
         return p;
     }
     let f = wide(label_at(nodes, n));
@@ -89,8 +89,7 @@ fn put_decisions(bytes: &mut [u8], ds: Decisions, from: usize)
     ensures { (sides : Sides) → Decided ds.words sides → bytes.new ≡ written_at bytes.old from (two_bytes_each (decision_numbers 0 sides)) }
 {
     let mut p = from;
-    let mut i: usize = 0;
-    while i < Limits::CHOICES {
+    for i in 0..Limits::CHOICES {
         match ds.side((i % 256) as u8) {
             Side::Open => {}
             Side::Left => {
@@ -102,7 +101,6 @@ fn put_decisions(bytes: &mut [u8], ds: Decisions, from: usize)
                 p += 2;
             }
         }
-        i += 1;
     }
 }
 

@@ -11,7 +11,7 @@ use Rattle.standing.proofs.Behind.{numbers-none, numbers-one, numbers-behind}
 use Rattle.standing.proofs.HeldOnce.{one-heap}
 use Rattle.standing.proofs.ValueSymbols.{AtApply, AtArgument, row-end, none_at_zero, none-at-others, some-at-apply, few-arguments, argument-here, argument-count}
 use Rattle.run.proofs.answers.+put_row_put_symbols.Goals as goal
-use Rattle.run.proofs.answers.+put_row_put_symbols.Goals.{put_row-After-arrow_at-arrow, put_symbols-Else-kind_at-ne-APPLY}
+use Rattle.run.proofs.answers.+put_row_put_symbols.Goals.{put_row-After-arrow_at-arrow, put_symbols-Else-kind_at}
 
 pub put_row-returns-then-arity-j : goal.put_row-returns-then-arity-j
 put_row-returns-then-arity-j t c =
@@ -67,15 +67,15 @@ put_symbols-returns-then-depth-eq0 t c =
     let a = c.args in
     λ h held. rw (none_at_zero a.depth h a.arrow c.if-depth-eq0.true) (numbers-none a.bytes.now a.p)
 
-pub put_symbols-returns-then-kind_at-ne-APPLY : goal.put_symbols-returns-then-kind_at-ne-APPLY
-put_symbols-returns-then-kind_at-ne-APPLY t c =
+pub put_symbols-returns-then-kind_at : goal.put_symbols-returns-then-kind_at
+put_symbols-returns-then-kind_at t c =
     let a = c.args in
     let node = c.follow-n in
-    λ h held. rw (none-at-others held a.arrow node.result c.requires.2 node.ensures a.depth (λ k. c.if-kind_at-ne-APPLY.true (c.kind_at.ensures ∙ k)))
+    λ h held. rw (none-at-others held a.arrow node.result c.requires.2 node.ensures a.depth (λ k. c.if-kind_at.true (c.kind_at.ensures ∙ k)))
     (numbers-none a.bytes.now a.p)
 
 -- the apply that the arrow leads to
-put-symbols-found : (t : ℕ) (c : put_symbols-Else-kind_at-ne-APPLY t)
+put-symbols-found : (t : ℕ) (c : put_symbols-Else-kind_at t)
     → let start = c in
     let a = c.args in
     AtApply (arity_by a.book.now a.table.now) a.nodes.now a.used c.requires.0 a.depth a.arrow c.follow-n.result
@@ -84,19 +84,19 @@ put-symbols-found t c =
     let a = c.args in
     let pre = c.requires in
     let node = c.follow-n in
-    some-at-apply pre.1 a.arrow node.result pre.2 node.ensures a.depth c.if-depth-eq0.false (sym c.kind_at.ensures ∙ c.if-kind_at-ne-APPLY.false)
+    some-at-apply pre.1 a.arrow node.result pre.2 node.ensures a.depth c.if-depth-eq0.false (sym c.kind_at.ensures ∙ c.if-kind_at.false)
 
 pub put_symbols-put_two-requires : goal.put_symbols-put_two-requires
 put_symbols-put_two-requires t c =
     let pre = c.requires in
-    (omega (arith, pre.3, ap length (put-symbols-found t (goal.at.put_symbols-put_two-requires t c).Else-kind_at-ne-APPLY).symbols), omega arith)
+    (omega (arith, pre.3, ap length (put-symbols-found t (goal.at.put_symbols-put_two-requires t c).Else-kind_at).symbols), omega arith)
 
 pub put_symbols-put_row-requires : goal.put_symbols-put_row-requires
 unfolding arity_by
 put_symbols-put_row-requires t c =
     let a = c.args in
     let pre = c.requires in
-    let found = put-symbols-found t (goal.at.put_symbols-put_row-requires t c).Else-kind_at-ne-APPLY in
+    let found = put-symbols-found t (goal.at.put_symbols-put_row-requires t c).Else-kind_at in
     let label = c.wide-f.ensures.0 ∙ c.label_at.ensures in (
       omega (arith, c.arity_of.ensures.1),
       (
@@ -113,7 +113,7 @@ put_symbols-returns t c =
     let a = c.args in
     let pre = c.requires in
     let node = c.follow-n.result in
-    let found = put-symbols-found t (goal.at.put_symbols-returns t c).Else-kind_at-ne-APPLY in
+    let found = put-symbols-found t (goal.at.put_symbols-returns t c).Else-kind_at in
     let label = c.wide-f.ensures.0 ∙ c.label_at.ensures in
     let one = c.put_two in
     let others = c.put_row in

@@ -1,4 +1,4 @@
--- `put_decisions` meets its contract: after i turns the numbers of the first i choices stand there. The measure is how many choices are left.
+-- `put_decisions` meets its contract: after i turns the numbers of the first i choices stand there.
 use mathlib.Core.List.{[], ◌∷◌}
 use mathlib.Core.Path.{◌≡◌, sym, ◌∙◌}
 use Prim.Native.Nat.{◌+◌, ◌*◌, ◌≤◌}
@@ -16,12 +16,12 @@ use Rattle.run.proofs.answers.put_decisions.Goals.{After-side, in-Open, in-Left,
 room : (c : After-side) (s : Side) → c.side.result ≡ s
     → let loop = c.loop-i in
     loop.p + 2 * length (decision_numbers loop.i (s ∷ [])) ≤ length loop.bytes
-room c s told = turned-room c.loop-i.invariant.1 s (omega arith) (sym told ∙ c.side.ensures)
+room c s told = turned-room c.loop-i.invariant s (omega arith) (sym told ∙ c.side.ensures)
 
 pub loop-i-init : goal.loop-i-init
 unfolding decision_numbers
 loop-i-init c =
-    (omega arith, record { sides = c.requires.0; means = c.requires.1; fits = c.requires.2; there = numbers-none c.args.bytes.now c.args.from })
+    record { sides = c.requires.0; means = c.requires.1; fits = c.requires.2; there = numbers-none c.args.bytes.now c.args.from }
 
 pub put_two-requires : goal.put_two-requires
 unfolding decision_numbers
@@ -30,7 +30,7 @@ put_two-requires c = (room (goal.at.put_two-requires c).After-side Left c.in-Lef
 pub overflow_add-p : goal.overflow_add-p
 unfolding decision_numbers
 overflow_add-p c =
-    omega (arith, room (goal.at.overflow_add-p c).After-side Left c.in-Left.is, turned-length c.loop-i.invariant.1)
+    omega (arith, room (goal.at.overflow_add-p c).After-side Left c.in-Left.is, turned-length c.loop-i.invariant)
 
 pub put_two-requires-in-Right : goal.put_two-requires-in-Right
 unfolding decision_numbers
@@ -39,24 +39,22 @@ put_two-requires-in-Right c = (room (goal.at.put_two-requires-in-Right c).After-
 pub overflow_add-p-in-Right : goal.overflow_add-p-in-Right
 unfolding decision_numbers
 overflow_add-p-in-Right c =
-    omega (arith, room (goal.at.overflow_add-p-in-Right c).After-side Right c.in-Right.is, turned-length c.loop-i.invariant.1)
+    omega (arith, room (goal.at.overflow_add-p-in-Right c).After-side Right c.in-Right.is, turned-length c.loop-i.invariant)
 
 pub loop-i-preserved : goal.loop-i-preserved
 unfolding decision_numbers
 loop-i-preserved c =
     let loop = c.loop-i in
     let read = c.side.ensures in
-    let next = turned_more loop.invariant.1 in (
-      omega arith,
-      elim c.match-side.branch [
-        | in-Open w ↦ rw (w.bytes-is, w.p-is) (next Open (omega arith) (sym w.in-Open.is ∙ read) loop.bytes loop.p (numbers-none loop.bytes loop.p))
-        | in-Left w ↦ rw (w.bytes-is, w.p-is) (next Left (omega arith) (sym w.in-Left.is ∙ read) _ (loop.p + 2) (numbers-one loop.bytes loop.p (2 * loop.i) _ w.put_two.ensures))
-        | in-Right w ↦ rw (w.bytes-is, w.p-is) (next Right (omega arith) (sym w.in-Right.is ∙ read) _ (loop.p + 2) (numbers-one loop.bytes loop.p (2 * loop.i + 1) _ w.put_two-in-Right.ensures))
-      ],
-    )
+    let next = turned_more loop.invariant in
+    elim c.match-side.branch [
+      | in-Open w ↦ rw (w.bytes-is, w.p-is) (next Open (omega arith) (sym w.in-Open.is ∙ read) loop.bytes loop.p (numbers-none loop.bytes loop.p))
+      | in-Left w ↦ rw (w.bytes-is, w.p-is) (next Left (omega arith) (sym w.in-Left.is ∙ read) _ (loop.p + 2) (numbers-one loop.bytes loop.p (2 * loop.i) _ w.put_two.ensures))
+      | in-Right w ↦ rw (w.bytes-is, w.p-is) (next Right (omega arith) (sym w.in-Right.is ∙ read) _ (loop.p + 2) (numbers-one loop.bytes loop.p (2 * loop.i + 1) _ w.put_two-in-Right.ensures))
+    ]
 
 pub shape_of-bytes : goal.shape_of-bytes
-shape_of-bytes c = turned-length c.loop-i.invariant.1
+shape_of-bytes c = turned-length c.loop-i.invariant
 
 pub returns : goal.returns
-returns c = turned-all c.loop-i.invariant.1 (omega arith)
+returns c = turned-all c.loop-i.invariant (omega arith)
