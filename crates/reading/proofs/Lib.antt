@@ -2,3 +2,4 @@ pub mod AtPlace
 pub mod Keeping
 pub mod Good
 pub mod Exits
+pub mod Told
