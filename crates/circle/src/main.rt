@@ -46,14 +46,12 @@ fn behind_line(listing: &[u8], p: usize) -> usize
     requires { p < length listing.now }
     ensures { (p < result) × (result ≤ length listing.now) }
 {
-    let mut q = p;
-    while q < listing.len() {
-        if listing[q] == 10 {
+    for q in p..listing.len() {
+        if listing[q] == b'\n' {
             return q + 1;
         }
-        q += 1;
     }
-    q
+    listing.len()
 }
 
 fn is_heading(listing: &[u8], p: usize) -> bool {
@@ -86,6 +84,7 @@ fn name_at(listing: &[u8], p: usize) -> &[u8]
 fn heading_at(listing: &[u8], x: usize) -> usize {
     let mut left = x;
     let mut p: usize = 0;
+    // a hop: the next line opens behind this one's end
     while p < listing.len() {
         if is_heading(listing, p) {
             if left == 0 {
@@ -98,28 +97,15 @@ fn heading_at(listing: &[u8], x: usize) -> usize {
     p
 }
 
-fn same<'a>(a: &'a [u8], b: &'a [u8]) -> bool {
-    if a.len() != b.len() {
-        return false;
-    }
-    let mut i: usize = 0;
-    while i < a.len() {
-        if a[i] != b[i] {
-            return false;
-        }
-        i += 1;
-    }
-    true
-}
-
 // The first BT line behind place `from` that has this name: its number, counted from 1.
 fn broader_line<'a>(listing: &'a [u8], from: usize, name: &'a [u8]) -> usize
     requires { length listing.now ≤ 262144 }
 {
     let mut line: usize = 1;
     let mut p: usize = 0;
+    // a hop: the next line opens behind this one's end
     while p < listing.len() {
-        if from < p && is_broader(listing, p) && same(name_at(listing, p), name) {
+        if from < p && is_broader(listing, p) && name_at(listing, p) == name {
             return line;
         }
         line += 1;
@@ -150,6 +136,7 @@ fn show_levels<'a>(rt: &impl Print, listing: &'a [u8], row: &'a [u16; HEADINGS])
 {
     let mut x: usize = 0;
     let mut p: usize = 0;
+    // a hop: the next line opens behind this one's end
     while p < listing.len() {
         x += show_level(rt, listing, p, number_in(row, x))?;
         p = behind_line(listing, p);
@@ -178,11 +165,9 @@ fn show_circle<'a>(
 ) -> io::Result<()>
     requires { length listing.now ≤ 262144 }
 {
-    let mut i: usize = 0;
-    while i < count {
+    for i in 0..count {
         let next = if i + 1 < count { i + 1 } else { 0 };
         show_hop(rt, listing, number_in(row, i), number_in(row, next))?;
-        i += 1;
     }
     Ok(())
 }

@@ -41,12 +41,6 @@ fn term(to: &[u16; TERMS], i: usize) -> usize
     wide(to[i])
 }
 
-fn larger(a: u16, b: u16) -> u16
-    ensures { result ≡ max b a }
-{
-    if a < b { b } else { a }
-}
-
 // One hop from heading x, and the longest chain behind it.
 fn longest_of(
     from: &[u16; ROWS],
@@ -58,13 +52,12 @@ fn longest_of(
     requires { (Holding from.now to.now n) × (x < n) × (Low row.now) }
     ensures { result ≡ longest row.now (broader_of (held from.now to.now n) x) }
 {
+    let start = place(from, x);
     let until = place(from, x + 1);
-    let mut i = place(from, x);
     let mut best: u16 = 0;
-    while i < until {
+    for i in start..until {
         let b = term(to, i);
-        best = larger(best, row[b] + 1);
-        i += 1;
+        best = best.max(row[b] + 1);
     }
     best
 }
@@ -80,10 +73,8 @@ fn one_round(
     ensures { RoundOf (held from.now to.now n) row.now result }
 {
     let mut next = [0u16; HEADINGS];
-    let mut x: usize = 0;
-    while x < n {
+    for x in 0..n {
         next[x] = longest_of(from, to, n, row, x);
-        x += 1;
     }
     next
 }
@@ -93,14 +84,7 @@ fn same_row(a: &[u16; HEADINGS], b: &[u16; HEADINGS], n: usize) -> bool
     requires { n ≤ 341 }
     ensures { SameAs a.now b.now n result }
 {
-    let mut x: usize = 0;
-    while x < n {
-        if a[x] != b[x] {
-            return false;
-        }
-        x += 1;
-    }
-    true
+    a[..n] == b[..n]
 }
 
 // Whether a round changed nothing, and the chains then.
@@ -116,14 +100,12 @@ fn levels_of(from: &[u16; ROWS], to: &[u16; TERMS], n: usize) -> Levelled
     ensures { LevelledAs (held from.now to.now n) result }
 {
     let mut row = [0u16; HEADINGS];
-    let mut k: usize = 0;
-    while k <= n {
+    for _k in 0..n + 1 {
         let next = one_round(from, to, n, &row);
         if same_row(&next, &row, n) {
             return Levelled { settled: true, row };
         }
         row = next;
-        k += 1;
     }
     Levelled {
         settled: false,
@@ -142,14 +124,13 @@ fn some_marked(
     requires { (Holding from.now to.now n) × (x < n) }
     ensures { result ≡ some_marked marks.now (broader_of (held from.now to.now n) x) }
 {
+    let start = place(from, x);
     let until = place(from, x + 1);
-    let mut i = place(from, x);
-    while i < until {
+    for i in start..until {
         let b = term(to, i);
         if marks[b] {
             return true;
         }
-        i += 1;
     }
     false
 }
@@ -166,10 +147,8 @@ fn one_hop(
     ensures { HopFrom (held from.now to.now n) low marks.now result }
 {
     let mut next = [false; HEADINGS];
-    let mut x = low;
-    while x < n {
+    for x in low..n {
         next[x] = some_marked(from, to, n, marks, x);
-        x += 1;
     }
     next
 }
@@ -179,14 +158,7 @@ fn no_mark(marks: &[bool; HEADINGS], n: usize) -> bool
     requires { n ≤ 341 }
     ensures { NoMark marks.now n result }
 {
-    let mut x: usize = 0;
-    while x < n {
-        if marks[x] {
-            return false;
-        }
-        x += 1;
-    }
-    true
+    marks[..n].iter().all(|mark| !*mark)
 }
 
 // A mark at heading x alone.
@@ -205,10 +177,8 @@ fn below_in(from: &[u16; ROWS], to: &[u16; TERMS], n: usize, x: usize, k: usize)
     ensures { SameMarks result (below (held from.now to.now n) x k) }
 {
     let mut marks = mark_at(n, x);
-    let mut i: usize = 0;
-    while i < k {
+    for _i in 0..k {
         marks = one_hop(from, to, n, &marks, 0);
-        i += 1;
     }
     marks
 }
@@ -219,8 +189,7 @@ fn back_in(from: &[u16; ROWS], to: &[u16; TERMS], n: usize, x: usize, best: usiz
     ensures { BackIn (held from.now to.now n) x best result }
 {
     let mut marks = mark_at(n, x);
-    let mut k: usize = 1;
-    while k < best {
+    for k in 1..best {
         marks = one_hop(from, to, n, &marks, x);
         if marks[x] {
             return k;
@@ -228,7 +197,6 @@ fn back_in(from: &[u16; ROWS], to: &[u16; TERMS], n: usize, x: usize, best: usiz
         if no_mark(&marks, n) {
             return best;
         }
-        k += 1;
     }
     best
 }
@@ -247,14 +215,12 @@ fn shortest_circle(from: &[u16; ROWS], to: &[u16; TERMS], n: usize) -> Shortest
 {
     let mut hops = n + 1;
     let mut first: usize = 0;
-    let mut x: usize = 0;
-    while x < n {
+    for x in 0..n {
         let k = back_in(from, to, n, x, hops);
         if k < hops {
             hops = k;
             first = x;
         }
-        x += 1;
     }
     Shortest { hops, first }
 }
@@ -284,13 +250,12 @@ fn lowest_of(
     if n <= here {
         return n;
     }
+    let start = place(from, here);
     let until = place(from, here + 1);
-    let mut i = place(from, here);
     let mut low = n;
-    while i < until {
+    for i in start..until {
         let b = term(to, i);
         low = lower_of(marks[b], b, low);
-        i += 1;
     }
     low
 }
@@ -308,12 +273,10 @@ fn put_way(
     ensures { row.new ≡ over (way_from (held from.now to.now n) first hops first) row.old }
 {
     let mut here = first;
-    let mut i: usize = 0;
-    while i < hops {
+    for i in 0..hops {
         row[i] = here as u16;
         let marks = below_in(from, to, n, first, hops - 1 - i);
         here = lowest_of(from, to, n, &marks, here);
-        i += 1;
     }
 }
 
@@ -322,11 +285,7 @@ fn put_levels(own: &[u16; HEADINGS], n: usize, row: &mut [u16])
     requires { (n ≤ 341) × (n ≤ length row.old) }
     ensures { PutLevels n own.now row.old row.new }
 {
-    let mut x: usize = 0;
-    while x < n {
-        row[x] = own[x];
-        x += 1;
-    }
+    row[..n].copy_from_slice(&own[..n]);
 }
 
 // The levels or the circle: of how many headings it is.

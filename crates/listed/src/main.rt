@@ -28,6 +28,7 @@ fn show_all(rt: &impl Print, input: &[u8]) -> io::Result<()>
     requires { length input.now ≤ 262144 }
 {
     let mut p: usize = 0;
+    // a hop: the next row opens behind this one's listing
     while p < input.len() {
         p = show_row(rt, input, p)?;
     }
@@ -68,10 +69,8 @@ fn show_saved(rt: &impl Print, listing: &[u8], lent: usize) -> io::Result<()> {
 
 // The numbers that are not as they were.
 fn show_written(rt: &impl Print, row: &[u16; NUMBERS]) -> io::Result<()> {
-    let mut i: usize = 0;
-    while i < NUMBERS {
-        show_unless_mark(rt, row[i])?;
-        i += 1;
+    for n in row {
+        show_unless_mark(rt, *n)?;
     }
     Ok(())
 }

@@ -78,10 +78,8 @@ fn put_symbols(room: &mut [u8], at: usize, many: usize, kind: u8) -> usize
     ensures { Put room.old at (kinds_laid many kind) result room.new }
 {
     let mut p = at;
-    let mut i: usize = 0;
-    while i < many {
+    for _i in 0..many {
         p = put_symbol(room, p, kind);
-        i += 1;
     }
     p
 }
@@ -144,13 +142,12 @@ fn put_nest(
     requires { HoldRow to.now n a b × (a < b) × Fits at (nest_laid above n (bytes_of to.now a b)) }
     ensures { Put room.old at (nest_laid above n (bytes_of to.now a b)) result room.new }
 {
+    let last = b - 1;
     let mut p = at;
-    let mut i = a;
-    while i + 1 < b {
+    for i in a..last {
         p = put_next(room, p, to[i] as usize, above, n);
-        i += 1;
     }
-    put_last(room, p, to[i] as usize, above, n)
+    put_last(room, p, to[last] as usize, above, n)
 }
 
 // A rule of these broader terms, "or fail where there are none", with its length in front.
@@ -188,8 +185,7 @@ fn put_rules(
     ensures { Put room.old at (rules_laid above n (broader_rows from.now to.now n 0)) result room.new }
 {
     let mut p = at;
-    let mut x: usize = 0;
-    while x < n {
+    for x in 0..n {
         p = put_rule(
             room,
             p,
@@ -199,7 +195,6 @@ fn put_rules(
             above,
             n,
         );
-        x += 1;
     }
     p
 }

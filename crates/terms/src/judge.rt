@@ -68,6 +68,7 @@ fn forms_of(s: &[u8]) -> Forms
     let mut lines: usize = 0;
     let mut headings: usize = 0;
     let mut at: usize = 0;
+    // a hop: the next line opens behind this one's end
     while at < s.len() {
         let to = line_end(s, at);
         if s.len() <= to {
@@ -119,10 +120,8 @@ fn hash_of(s: &[u8], from: usize, until: usize) -> usize
     ensures { (result ≡ hash_of (bytes_of s.now from until)) × (result < table_size) }
 {
     let mut h: usize = 0;
-    let mut i = from;
-    while i < until {
+    for i in from..until {
         h = (h * 257 + wide(s[i])) % 4294967291;
-        i += 1;
     }
     h % TABLE
 }
@@ -132,11 +131,7 @@ fn clear(last: &mut [usize; TABLE])
     requires { Sized last.old }
     ensures { Cleared last.new }
 {
-    let mut h: usize = 0;
-    while h < TABLE {
-        last[h] = 0;
-        h += 1;
-    }
+    *last = [0usize; TABLE];
 }
 
 // The name from `at` to `to` is one of the first `from` entries: it is sought down the chain of its hash.
@@ -155,6 +150,7 @@ fn in_table(
     ensures { Sought result s.now place.now from (bytes_of s.now at to) }
 {
     let mut i = from;
+    // a hop: the next entry is the one that this one names
     while i != 0 {
         let p = place[i - 1];
         let end = line_end(s, p);
@@ -214,6 +210,7 @@ fn fill(
     let mut p = at;
     let mut n = line;
     let mut count: usize = 0;
+    // a hop: the next line opens behind this one's end
     while p < s.len() {
         let to = line_end(s, p);
         if s.len() <= to {
@@ -299,6 +296,7 @@ fn first_known(
 {
     let mut p = at;
     let mut n = line;
+    // a hop: the next line opens behind this one's end
     while p < s.len() {
         let to = line_end(s, p);
         if s.len() <= to {
@@ -347,6 +345,7 @@ fn first_twice(s: &[u8], lines: usize) -> usize
     let mut best: usize = 0;
     let mut at: usize = 0;
     let mut line: usize = 1;
+    // a hop: the next block begins where this one was full
     while at < s.len() {
         let until = until_of(best, lines);
         let f = fill(s, at, line, until, &mut place, &mut before, &mut last);
@@ -411,6 +410,7 @@ fn has_mirror(s: &[u8], h: usize, p: usize) -> bool
 {
     let mut g = s.len();
     let mut at: usize = 0;
+    // a hop: the next line opens behind this one's end
     while at < s.len() {
         let to = line_end(s, at);
         if s.len() <= to {
@@ -431,10 +431,8 @@ fn mix_of(s: &[u8], from: usize, until: usize) -> usize
     ensures { result < 1048576 }
 {
     let mut h: usize = 0;
-    let mut i = from;
-    while i < until {
+    for i in from..until {
         h = (h * 31 + wide(s[i])) % 1048576;
-        i += 1;
     }
     h
 }
@@ -504,6 +502,7 @@ fn note_lines(
     let mut g = h;
     let mut p = at;
     let mut k: usize = 0;
+    // a hop: the next line opens behind this one's end
     while p < s.len() {
         let to = line_end(s, p);
         if s.len() <= to {
@@ -575,6 +574,7 @@ fn meet_line(
     let q_end = line_end(s, q);
     let key = key_of(s, g, g_end, q + 5, q_end, side);
     let mut i = last[key];
+    // a hop: the next entry is the one that this one names
     while i != 0 {
         if TABLE < i {
             return;
@@ -604,6 +604,7 @@ fn meet_lines(
 {
     let mut g = s.len();
     let mut at: usize = 0;
+    // a hop: the next line opens behind this one's end
     while at < s.len() {
         let to = line_end(s, at);
         if s.len() <= to {
@@ -716,6 +717,7 @@ fn first_unmirrored(s: &[u8]) -> usize
     let mut line: usize = 1;
     let mut at: usize = 0;
     let mut k: usize = 0;
+    // a hop: the next line opens behind this one's end
     while at < s.len() {
         let to = line_end(s, at);
         if s.len() <= to {

@@ -4,6 +4,8 @@ ghost use Rattle.tagged.specs.Lines.{printed, is_name, same as same_bytes, line_
 ghost use Rattle.terms.specs.Places.{end_of, bytes_of, tag_of};
 ghost use Rattle.terms.specs.InCode.{line_by};
 
+use reading::part_of;
+
 // What a line is.
 #[derive(Clone, Copy)]
 pub enum Form {
@@ -15,34 +17,23 @@ pub enum Form {
 
 // The place of the newline that ends the line at `at`; the length of the listing if none does.
 pub(crate) fn line_end(s: &[u8], at: usize) -> usize
+    requires { at ≤ length s.now }
     ensures { result ≡ end_of s.now at }
 {
-    let mut i = at;
-    while i < s.len() {
-        if s[i] == 10 {
+    for i in at..s.len() {
+        if s[i] == b'\n' {
             return i;
         }
-        i += 1;
     }
-    i
+    s.len()
 }
 
 // Bytes 32 to 126 alone stand from `from` to `to`.
 fn is_printed(s: &[u8], from: usize, to: usize) -> bool
-    requires { to ≤ length s.now }
+    requires { (from ≤ to) × (to ≤ length s.now) }
     ensures { result ≡ printed (bytes_of s.now from to) }
 {
-    let mut i = from;
-    while i < to {
-        if s[i] < 32 {
-            return false;
-        }
-        if 126 < s[i] {
-            return false;
-        }
-        i += 1;
-    }
-    true
+    s[from..to].iter().all(|b| (32..=126).contains(b))
 }
 
 // "one or more bytes 32 to 126, not opening with a space"
@@ -64,22 +55,7 @@ pub(crate) fn same(s: &[u8], a: usize, end: usize, b: usize, until: usize) -> bo
     requires { (end ≤ length s.now) × (until ≤ length s.now) }
     ensures { result ≡ same_bytes (bytes_of s.now a end) (bytes_of s.now b until) }
 {
-    let mut i = a;
-    let mut j = b;
-    while i < end {
-        if until <= j {
-            return false;
-        }
-        if s[i] != s[j] {
-            return false;
-        }
-        i += 1;
-        j += 1;
-    }
-    if j < until {
-        return false;
-    }
-    true
+    part_of(s, a, end) == part_of(s, b, until)
 }
 
 // "two spaces, BT or NT, one space", by the first letter

@@ -82,6 +82,7 @@ fn note_headings(s: &[u8], opens: &mut [usize; HEADINGS], ends: &mut [usize; HEA
 {
     let mut count: usize = 0;
     let mut at: usize = 0;
+    // a hop: the next line opens behind this one's end
     while at < s.len() {
         let end = line_end(s, at);
         if s.len() <= end {
@@ -105,16 +106,14 @@ fn number_among(
     requires { (until ≤ length s.now) × AllNoted s.now opens.now ends.now count }
     ensures { result ≡ number_of (bytes_of s.now from until) (headings_of (lines_of s.now)) }
 {
-    let mut x: usize = 0;
-    while x < count {
+    for x in 0..count {
         let at = opens[x];
         let end = ends[x];
         if same(s, from, until, at, end) {
             return x;
         }
-        x += 1;
     }
-    x
+    count
 }
 
 // What the lines so far give: how many headings, how many broader terms the last of them has, how many there are in all, and how many bytes
@@ -231,6 +230,7 @@ fn gathered(s: &[u8]) -> Terms
         size: 5,
     };
     let mut at: usize = 0;
+    // a hop: the next line opens behind this one's end
     while at < s.len() {
         let end = line_end(s, at);
         sum = take_line(s, &opens, &ends, count, at, end, sum, &mut from, &mut to);

@@ -56,9 +56,6 @@ returns-then-no_mark c =
       back = λ less. absurd (omega arith);
     }
 
-pub overflow_add-k : goal.overflow_add-k
-overflow_add-k c = omega (arith, c.requires.3)
-
 pub loop-k-preserved : goal.loop-k-preserved
 loop-k-preserved c =
     let a = c.args in

@@ -24,10 +24,10 @@ loop-i-preserved c =
     let a = c.args in
     let loop = c.loop-i in
     let broader = held a.from.now a.to.now a.n in
-    (omega arith, rw add-one (hop-below broader a.x loop.i loop.marks c.one_hop-marks.result loop.invariant.1 c.one_hop-marks.ensures))
+    (omega arith, rw add-one (hop-below broader a.x loop._i loop.marks c.one_hop-marks.result loop.invariant.1 c.one_hop-marks.ensures))
 
 pub returns : goal.returns
 returns c =
     let loop = c.loop-i in
-    let e : loop.i ≡ c.args.k = omega (arith, loop.invariant.0) in
+    let e : loop._i ≡ c.args.k = omega (arith, loop.invariant.0) in
     rw e at loop.invariant.1

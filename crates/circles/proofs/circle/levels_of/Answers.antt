@@ -14,7 +14,7 @@ pub one_round-next-requires : goal.one_round-next-requires
 one_round-next-requires c =
     let a = c.args in
     let loop = c.loop-k in
-    (c.requires, rounded_low (held a.from.now a.to.now a.n) loop.k loop.row loop.invariant.1 (omega (arith, c.requires.terms.few)))
+    (c.requires, rounded_low (held a.from.now a.to.now a.n) loop._k loop.row loop.invariant.1 (omega (arith, c.requires.terms.few)))
 
 pub same_row-requires : goal.same_row-requires
 same_row-requires c = c.requires.terms.few
@@ -28,13 +28,13 @@ returns-then-same_row c =
     let alike = c.same_row.ensures.same c.if-same_row.true in
     let next = c.one_round-next in
     record {
-      clear = λ e. rounded_clear broader loop.k a.n loop.row next.result long loop.invariant.1 next.ensures alike;
-      row = λ e. rounded_levels broader loop.k a.n loop.row next.result long loop.invariant.1 next.ensures alike (omega arith);
+      clear = λ e. rounded_clear broader loop._k a.n loop.row next.result long loop.invariant.1 next.ensures alike;
+      row = λ e. rounded_levels broader loop._k a.n loop.row next.result long loop.invariant.1 next.ensures alike (omega arith);
       round = λ e. absurd (let z : ◌≡◌ {A = ℕ} 0 1 = cc in omega arith);
     }
 
-pub overflow_add-k : goal.overflow_add-k
-overflow_add-k c = omega (arith, c.requires.terms.few)
+pub overflow_add-k-end : goal.overflow_add-k-end
+overflow_add-k-end c = omega (arith, c.requires.terms.few)
 
 pub loop-k-preserved : goal.loop-k-preserved
 loop-k-preserved c =
@@ -43,7 +43,7 @@ loop-k-preserved c =
     let broader = held a.from.now a.to.now a.n in
     let differ = c.same_row.ensures.other c.if-same_row.false in
     let next = c.one_round-next in
-    (omega arith, rounded_more broader loop.k loop.row next.result loop.invariant.1 next.ensures differ)
+    (omega arith, rounded_more broader loop._k loop.row next.result loop.invariant.1 next.ensures differ)
 
 pub returns : goal.returns
 returns c =
@@ -54,5 +54,5 @@ returns c =
     record {
       clear = λ e. absurd (let z : ◌≡◌ {A = ℕ} 0 1 = cc in omega arith);
       row = λ e. absurd (let z : ◌≡◌ {A = ℕ} 0 1 = cc in omega arith);
-      round = λ e. rounded_round broader loop.k loop.row (omega arith) loop.invariant.1;
+      round = λ e. rounded_round broader loop._k loop.row (omega arith) loop.invariant.1;
     }

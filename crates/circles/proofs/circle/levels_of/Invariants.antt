@@ -1,11 +1,8 @@
 -- What the loops of `levels_of` keep.
-use Prim.Native.Nat.{◌+◌, ◌-◌, ◌≤◌}
+use Prim.Native.Nat.{◌+◌, ◌≤◌}
 use Rattle.circles.specs.Saving.{held}
 use Rattle.circles.proofs.RoundWays.{Rounded}
 use Rattle.circles.proofs.circle.levels_of.Given as goal
 
 abbrev pub invariant-loop-k : goal.invariant-loop-k
-invariant-loop-k l = (l.k ≤ l.n + 1) × Rounded (held l.from l.to l.n) l.k l.row
-
-abbrev pub decreases-loop-k : goal.decreases-loop-k
-decreases-loop-k l = l.n + 1 - l.k
+invariant-loop-k l = (l._k ≤ l.n + 1) × Rounded (held l.from l.to l.n) l._k l.row

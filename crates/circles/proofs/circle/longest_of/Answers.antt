@@ -12,7 +12,7 @@ loop-i-init c =
     let a = c.args in
     let pre = c.requires in
     let whole = broader-at a.from.now a.to.now a.n pre.0 a.x pre.1 in
-    rw (c.place-i.ensures, c.place-until.ensures) (ap (longest a.row.now) whole ∙ omega arith)
+    rw (c.place-start.ensures, c.place-until.ensures) (ap (longest a.row.now) whole ∙ omega arith)
 
 pub term-b-requires : goal.term-b-requires
 term-b-requires c =
@@ -46,7 +46,7 @@ loop-i-preserved c =
     let within : until.result ≤ length a.to.now = omega (arith, until.ensures) in
     let more = longest-more a.row.now a.to.now loop.i until.result (omega arith) within in
     let term = c.term-b.ensures in
-    omega (arith, loop.invariant, c.larger-best.ensures, ap (λ (b : ℕ). get_or a.row.now b 0) term)
+    omega (arith, loop.invariant, c.max-best.ensures, ap (λ (b : ℕ). get_or a.row.now b 0) term)
 
 pub returns : goal.returns
 returns c =

@@ -1,6 +1,6 @@
 -- What the loops of `longest_of` keep.
 use mathlib.Core.Path.{◌≡◌}
-use Prim.Native.Nat.{◌-◌, max}
+use Prim.Native.Nat.{max}
 use Rattle.tagged.specs.Hops.{broader_of}
 use Rattle.tagged.specs.Levels.{longest}
 use Rattle.terms.specs.Places.{bytes_of}
@@ -9,6 +9,3 @@ use Rattle.circles.proofs.circle.longest_of.Given as goal
 
 abbrev pub invariant-loop-i : goal.invariant-loop-i
 invariant-loop-i l = longest l.row (broader_of (held l.from l.to l.n) l.x) ≡ max l.best (longest l.row (bytes_of l.to l.i l.until))
-
-abbrev pub decreases-loop-i : goal.decreases-loop-i
-decreases-loop-i l = l.until - l.i

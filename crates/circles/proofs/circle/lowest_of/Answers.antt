@@ -24,7 +24,7 @@ loop-i-init c =
     let pre = c.requires in
     let whole = broader-at a.from.now a.to.now a.n pre a.here (omega arith) in (
       omega arith,
-      λ own same long. rw (c.place-i.ensures, c.place-until.ensures, ← whole)
+      λ own same long. rw (c.place-start.ensures, c.place-until.ensures, ← whole)
           (omega (arith, lowest-within own (broader_of (held a.from.now a.to.now a.n) a.here))),
     )
 

@@ -2,7 +2,7 @@
 use mathlib.Core.Path.{◌≡◌}
 use mathlib.Core.Bool.{Bool}
 use mathlib.Core.List.{List}
-use Prim.Native.Nat.{◌-◌, ◌≤◌, min}
+use Prim.Native.Nat.{◌≤◌, min}
 use lib.ListN.{length}
 use Rattle.tagged.specs.Hops.{broader_of}
 use Rattle.tagged.specs.Circle.{lowest}
@@ -14,6 +14,3 @@ abbrev pub invariant-loop-i : goal.invariant-loop-i
 invariant-loop-i l =
     (l.low ≤ l.n)
     × ((own : List Bool) → SameMarks l.marks own → length own ≡ l.n → lowest own (broader_of (held l.from l.to l.n) l.here) ≡ min l.low (lowest own (bytes_of l.to l.i l.until)))
-
-abbrev pub decreases-loop-i : goal.decreases-loop-i
-decreases-loop-i l = l.until - l.i

@@ -1,6 +1,6 @@
 -- What the loops of `one_hop` keep.
 use mathlib.Core.Bool.{false, ◌&&◌}
-use Prim.Native.Nat.{ℕ, ◌-◌, ◌≤◌}
+use Prim.Native.Nat.{ℕ, ◌≤◌}
 use lib.Dec.{leb}
 use Rattle.tagged.specs.Hops.{broader_of}
 use Rattle.tagged.specs.Circle.{some_marked}
@@ -10,6 +10,3 @@ use Rattle.circles.proofs.circle.one_hop.Given as goal
 
 abbrev pub invariant-loop-x : goal.invariant-loop-x
 invariant-loop-x l = (l.low ≤ l.x) × Filled (λ (y : ℕ). leb l.low y && some_marked l.marks (broader_of (held l.from l.to l.n) y)) false 341 l.next l.x
-
-abbrev pub decreases-loop-x : goal.decreases-loop-x
-decreases-loop-x l = l.n - l.x

@@ -1,5 +1,5 @@
 -- What the loops of `one_round` keep.
-use Prim.Native.Nat.{ℕ, ◌-◌, ◌≤◌}
+use Prim.Native.Nat.{ℕ, ◌≤◌}
 use Rattle.tagged.specs.Hops.{broader_of}
 use Rattle.tagged.specs.Levels.{longest}
 use Rattle.circles.specs.Saving.{held}
@@ -8,6 +8,3 @@ use Rattle.circles.proofs.circle.one_round.Given as goal
 
 abbrev pub invariant-loop-x : goal.invariant-loop-x
 invariant-loop-x l = (l.x ≤ l.n) × Filled (λ (y : ℕ). longest l.row (broader_of (held l.from l.to l.n) y)) 0 341 l.next l.x
-
-abbrev pub decreases-loop-x : goal.decreases-loop-x
-decreases-loop-x l = l.n - l.x

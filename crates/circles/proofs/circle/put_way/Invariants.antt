@@ -10,6 +10,3 @@ abbrev pub invariant-loop-i : goal.invariant-loop-i
 invariant-loop-i l =
     (l.i ≤ l.hops) × (l.here ≤ l.n) × (length l.row ≡ length l.initial.row)
     × Front (way_from (held l.from l.to l.n) l.first l.hops l.first) l.initial.row l.row l.i (way_from (held l.from l.to l.n) l.first (l.hops - l.i) l.here)
-
-abbrev pub decreases-loop-i : goal.decreases-loop-i
-decreases-loop-i l = l.hops - l.i

@@ -14,7 +14,7 @@ loop-i-init c =
     let a = c.args in
     let pre = c.requires in
     let whole = broader-at a.from.now a.to.now a.n pre.0 a.x pre.1 in
-    rw (c.place-i.ensures, c.place-until.ensures) (ap (some_marked a.marks.now) whole)
+    rw (c.place-start.ensures, c.place-until.ensures) (ap (some_marked a.marks.now) whole)
 
 pub term-b-requires : goal.term-b-requires
 term-b-requires c =

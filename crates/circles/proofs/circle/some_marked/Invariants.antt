@@ -1,6 +1,5 @@
 -- What the loops of `some_marked` keep.
 use mathlib.Core.Path.{◌≡◌}
-use Prim.Native.Nat.{◌-◌}
 use Rattle.tagged.specs.Hops.{broader_of}
 use Rattle.tagged.specs.Circle.{some_marked}
 use Rattle.terms.specs.Places.{bytes_of}
@@ -9,6 +8,3 @@ use Rattle.circles.proofs.circle.some_marked.Given as goal
 
 abbrev pub invariant-loop-i : goal.invariant-loop-i
 invariant-loop-i l = some_marked l.marks (broader_of (held l.from l.to l.n) l.x) ≡ some_marked l.marks (bytes_of l.to l.i l.until)
-
-abbrev pub decreases-loop-i : goal.decreases-loop-i
-decreases-loop-i l = l.until - l.i

@@ -1,6 +1,6 @@
 -- `put_nest` meets its contract: the terms from i on are left to be put.
-use mathlib.Core.Path.{ap, ◌∙◌}
-use Prim.Native.Nat.{◌+◌, ◌≤◌}
+use mathlib.Core.Path.{◌≡◌, ap, ◌∙◌}
+use Prim.Native.Nat.{◌+◌, ◌-◌, ◌≤◌}
 use native.Mathlib.Omega.{arith}
 use lib.ListN.{length, get_or}
 use Rattle.listings.specs.Putting.{next_laid, nest_laid}
@@ -22,7 +22,7 @@ put_next-p-requires c =
     let a = c.args in
     let row = c.requires.0 in
     let filled : a.b ≤ length a.to.now = omega (arith, row.whole, row.filled) in
-    let split = nest_more a.above a.n a.to.now l.i a.b filled c.loop-i-test.true in
+    let split = nest_more a.above a.n a.to.now l.i a.b filled (omega arith) in
     let first = next_laid a.above a.n (get_or a.to.now l.i 0) in
     let rest = nest_laid a.above a.n (bytes_of a.to.now (l.i + 1) a.b) in
     (row.few, row.inside l.i (omega arith), left-fits first rest split l.invariant.2 c.requires.2)
@@ -33,7 +33,7 @@ loop-i-preserved c =
     let a = c.args in
     let row = c.requires.0 in
     let filled : a.b ≤ length a.to.now = omega (arith, row.whole, row.filled) in
-    let split = nest_more a.above a.n a.to.now l.i a.b filled c.loop-i-test.true in
+    let split = nest_more a.above a.n a.to.now l.i a.b filled (omega arith) in
     (omega arith, omega arith, left-put split l.invariant.2 c.put_next-p.ensures)
 
 pub overflow_cast-to-2 : goal.overflow_cast-to-2
@@ -46,8 +46,10 @@ put_last-requires c =
     let a = c.args in
     let row = c.requires.0 in
     let filled : a.b ≤ length a.to.now = omega (arith, row.whole, row.filled) in
-    let is = nest_one a.above a.n a.to.now l.i a.b filled l.invariant.1 c.loop-i-test.false in
-    (row.few, row.inside l.i (omega arith), omega (arith, ap length is, l.invariant.2.behind, c.requires.2))
+    let last = a.b - 1 in
+    let at-last : l.i ≡ last = omega arith in
+    let is = nest_one a.above a.n a.to.now last a.b filled (omega arith) (omega arith) in
+    (row.few, row.inside last (omega arith), omega (arith, ap length is, (rw at-last at l.invariant.2).behind, c.requires.2))
 
 pub shape_of-room : goal.shape_of-room
 shape_of-room c = put_same c.put_last.ensures ∙ left-same c.loop-i.invariant.2
@@ -58,5 +60,7 @@ returns c =
     let a = c.args in
     let row = c.requires.0 in
     let filled : a.b ≤ length a.to.now = omega (arith, row.whole, row.filled) in
-    let is = nest_one a.above a.n a.to.now l.i a.b filled l.invariant.1 c.loop-i-test.false in
-    left-last is l.invariant.2 c.put_last.ensures
+    let last = a.b - 1 in
+    let at-last : l.i ≡ last = omega arith in
+    let is = nest_one a.above a.n a.to.now last a.b filled (omega arith) (omega arith) in
+    left-last is (rw at-last at l.invariant.2) c.put_last.ensures

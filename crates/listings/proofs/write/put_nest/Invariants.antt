@@ -1,5 +1,5 @@
 -- What the loops of `put_nest` keep.
-use Prim.Native.Nat.{◌-◌, ◌≤◌, ◌<◌}
+use Prim.Native.Nat.{◌≤◌, ◌<◌}
 use Rattle.listings.specs.Putting.{nest_laid}
 use Rattle.terms.specs.Places.{bytes_of}
 use Rattle.listings.proofs.PutWays.{Left}
@@ -8,6 +8,3 @@ use Rattle.listings.proofs.write.put_nest.Given as goal
 abbrev pub invariant-loop-i : goal.invariant-loop-i
 invariant-loop-i l =
     (l.a ≤ l.i) × (l.i < l.b) × Left l.initial.room l.at (nest_laid l.above l.n (bytes_of l.to l.a l.b)) l.room l.p (nest_laid l.above l.n (bytes_of l.to l.i l.b))
-
-abbrev pub decreases-loop-i : goal.decreases-loop-i
-decreases-loop-i l = l.b - l.i

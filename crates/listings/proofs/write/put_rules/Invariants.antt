@@ -8,6 +8,3 @@ use Rattle.listings.proofs.write.put_rules.Given as goal
 abbrev pub invariant-loop-x : goal.invariant-loop-x
 invariant-loop-x l =
     (l.x ≤ l.n) × Left l.initial.room l.at (rules_laid l.above l.n (broader_rows l.from l.to l.n 0)) l.room l.p (rules_laid l.above l.n (broader_rows l.from l.to (l.n - l.x) l.x))
-
-abbrev pub decreases-loop-x : goal.decreases-loop-x
-decreases-loop-x l = l.n - l.x

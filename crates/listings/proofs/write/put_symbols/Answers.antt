@@ -13,14 +13,14 @@ pub put_symbol-p-requires : goal.put_symbol-p-requires
 put_symbol-p-requires c =
     let a = c.args in
     let l = c.loop-i in
-    let split = kinds-one a.many a.kind l.i c.loop-i-test.true in
-    left-fits (kind_laid a.kind) (kinds_laid (a.many - (l.i + 1)) a.kind) split l.invariant.1 c.requires
+    let split = kinds-one a.many a.kind l._i c.loop-i-test.true in
+    left-fits (kind_laid a.kind) (kinds_laid (a.many - (l._i + 1)) a.kind) split l.invariant.1 c.requires
 
 pub loop-i-preserved : goal.loop-i-preserved
 loop-i-preserved c =
     let l = c.loop-i in
     let a = c.args in
-    (omega arith, left-put (kinds-one a.many a.kind l.i c.loop-i-test.true) l.invariant.1 c.put_symbol-p.ensures)
+    (omega arith, left-put (kinds-one a.many a.kind l._i c.loop-i-test.true) l.invariant.1 c.put_symbol-p.ensures)
 
 pub shape_of-room : goal.shape_of-room
 shape_of-room c = left-same c.loop-i.invariant.1
@@ -29,4 +29,4 @@ pub returns : goal.returns
 returns c =
     let a = c.args in
     let l = c.loop-i in
-    left-none (kinds-none a.many a.kind l.i c.loop-i-test.false) l.invariant.1
+    left-none (kinds-none a.many a.kind l._i c.loop-i-test.false) l.invariant.1

@@ -5,7 +5,4 @@ use Rattle.listings.proofs.PutWays.{Left}
 use Rattle.listings.proofs.write.put_symbols.Given as goal
 
 abbrev pub invariant-loop-i : goal.invariant-loop-i
-invariant-loop-i l = (l.i ≤ l.many) × Left l.initial.room l.at (kinds_laid l.many l.kind) l.room l.p (kinds_laid (l.many - l.i) l.kind)
-
-abbrev pub decreases-loop-i : goal.decreases-loop-i
-decreases-loop-i l = l.many - l.i
+invariant-loop-i l = (l._i ≤ l.many) × Left l.initial.room l.at (kinds_laid l.many l.kind) l.room l.p (kinds_laid (l.many - l._i) l.kind)

@@ -1,5 +1,6 @@
 -- `line_end` meets its contract: the line ends where it ends from here on.
-use mathlib.Core.Path.{refl, sym, ◌∙◌}
+use mathlib.Core.Path.{◌≡◌, refl, sym, ◌∙◌}
+use lib.ListN.{length}
 use native.Mathlib.Omega.{arith}
 use Rattle.terms.proofs.LineWays.{end-here, end_later, end-past}
 use Rattle.terms.proofs.lines.line_end.Goals as goal
@@ -22,5 +23,6 @@ loop-i-preserved c =
 pub returns : goal.returns
 returns c =
     let loop = c.loop-i in
-    let a = c.args in
-    sym (loop.invariant ∙ end-past a.s.now loop.i (omega arith))
+    let s = c.args.s.now in
+    let at-end : length s ≡ loop.i = omega arith in
+    at-end ∙ sym (loop.invariant ∙ end-past s loop.i (omega arith))

@@ -1,12 +1,7 @@
 -- What the loops of `line_end` keep.
 use mathlib.Core.Path.{◌≡◌}
-use Prim.Native.Nat.{◌-◌}
-use lib.ListN.{length}
 use Rattle.terms.specs.Places.{end_of}
 use Rattle.terms.proofs.lines.line_end.Given as goal
 
 abbrev pub invariant-loop-i : goal.invariant-loop-i
 invariant-loop-i l = end_of l.s l.at ≡ end_of l.s l.i
-
-abbrev pub decreases-loop-i : goal.decreases-loop-i
-decreases-loop-i l = length l.s - l.i

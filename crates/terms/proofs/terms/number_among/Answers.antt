@@ -11,7 +11,7 @@ use Rattle.terms.proofs.TermsNoted.{among_none, among-here, among_later}
 use Rattle.terms.proofs.terms.number_among.Goals as goal
 
 pub loop-x-init : goal.loop-x-init
-loop-x-init c = (omega arith, omega arith)
+loop-x-init c = omega arith
 
 pub offset_bounds-opens-x : goal.offset_bounds-opens-x
 offset_bounds-opens-x c =
@@ -49,10 +49,7 @@ returns-then-same c =
     let low : loop.x < length names = omega (arith, all.all) in
     let here = ap (same name) (all.noted.stand loop.x (omega arith)) in
     let found = among-here name names loop.x low (sym here ∙ sym c.same.ensures ∙ c.if-same.true) in
-    omega (arith, loop.invariant.1, found)
-
-pub loop-x-smaller : goal.loop-x-smaller
-loop-x-smaller c = omega arith
+    omega (arith, loop.invariant, found)
 
 pub loop-x-preserved : goal.loop-x-preserved
 loop-x-preserved c =
@@ -65,7 +62,7 @@ loop-x-preserved c =
     let low : loop.x < length names = omega (arith, all.all) in
     let here = ap (same name) (all.noted.stand loop.x (omega arith)) in
     let later = among_later name names loop.x low (sym here ∙ sym c.same.ensures ∙ c.if-same.false) in
-    (omega arith, omega (arith, loop.invariant.1, later))
+    omega (arith, loop.invariant, later)
 
 pub returns : goal.returns
 returns c =
@@ -75,4 +72,4 @@ returns c =
     let names = headings_of (lines_of s) in
     let name = bytes_of s a.from a.until in
     let all = c.requires.1 in
-    omega (arith, loop.invariant.1, among_none name names loop.x (omega (arith, all.all)))
+    omega (arith, loop.invariant, among_none name names loop.x (omega (arith, all.all)))

@@ -1,6 +1,6 @@
 -- What the loops of `number_among` keep.
 use mathlib.Core.Path.{◌≡◌}
-use Prim.Native.Nat.{◌+◌, ◌-◌, ◌≤◌}
+use Prim.Native.Nat.{◌+◌}
 use Rattle.tagged.specs.Lines.{lines_of}
 use Rattle.tagged.specs.Listing.{number_of, headings_of}
 use Rattle.terms.specs.Places.{bytes_of}
@@ -9,7 +9,4 @@ use Rattle.terms.proofs.terms.number_among.Given as goal
 
 abbrev pub invariant-loop-x : goal.invariant-loop-x
 invariant-loop-x l =
-    (l.x ≤ l.count) × (number_of (bytes_of l.s l.from l.until) (headings_of (lines_of l.s)) ≡ l.x + number_from (bytes_of l.s l.from l.until) (headings_of (lines_of l.s)) l.x)
-
-abbrev pub decreases-loop-x : goal.decreases-loop-x
-decreases-loop-x l = l.count - l.x
+    number_of (bytes_of l.s l.from l.until) (headings_of (lines_of l.s)) ≡ l.x + number_from (bytes_of l.s l.from l.until) (headings_of (lines_of l.s)) l.x
