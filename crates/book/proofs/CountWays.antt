@@ -3,7 +3,7 @@ use mathlib.Core.Bool.{true, false}
 use mathlib.Core.List.{List, [], ◌∷◌}
 use mathlib.Core.Path.{◌≡◌, ◌∙◌}
 use Prim.Native.Nat.{ℕ, ◌+◌}
-use native.Mathlib.Nat.{add-zero, add-suc, suc-add, zero-add}
+use native.Mathlib.Nat.{add-zero, add-suc, suc-add}
 use native.Mathlib.Numerals.{add-one}
 use lib.ListN.{length}
 use Rattle.reading.specs.Reading.{got, refusal}
@@ -20,7 +20,7 @@ use Rattle.book.specs.RowsRead.{trees_read_at, trees_read, rows_read}
 
 module _ (bs : List ℕ) (S : Symbols) (e p count : ℕ) where
   -- the count, with the trees of these symbols from p on
-  abbrev counted : Symbols → ℕ
+  abbrev pub counted : Symbols → ℕ
   counted symbols = count + trees_read_at bs S e symbols p
 
   -- no symbol is left
@@ -31,9 +31,9 @@ module _ (bs : List ℕ) (S : Symbols) (e p count : ℕ) where
   -- symbol x is next, and then `rest`
   module _ {symbols : Symbols} (x : Symbol) (rest : Symbols) (next : symbols ≡ x ∷ rest) where
     -- a constructor has no tree
-    pub count_past : {r : ℕ} → x.is_operation ≡ false → r ≡ counted rest → r ≡ counted symbols
+    pub count_past : x.is_operation ≡ false → counted rest ≡ counted symbols
     unfolding trees_read_at
-    count_past constructor behind = behind ∙ simp (next, trees_read_at, constructor)
+    count_past constructor = simp (next, trees_read_at, constructor)
 
     -- an operation's tree is refused
     pub count-refused : {c q : ℕ} → x.is_operation ≡ true → refusal c q ≡ keeping nothing (item_at bs S e x p) → count ≡ counted symbols
@@ -41,11 +41,9 @@ module _ (bs : List ℕ) (S : Symbols) (e p count : ℕ) where
     count-refused operation told = simp (next, trees_read_at, operation, kept-refusal nothing _ told, add-zero)
 
     -- it is read, and then the rest
-    pub count-more : {r v q : ℕ} → x.is_operation ≡ true → got v q ≡ keeping nothing (item_at bs S e x p) → r ≡ count + 1 + trees_read_at bs S e rest q
-        → r ≡ counted symbols
+    pub count-more : {v q : ℕ} → x.is_operation ≡ true → got v q ≡ keeping nothing (item_at bs S e x p) → count + 1 + trees_read_at bs S e rest q ≡ counted symbols
     unfolding trees_read_at
-    count-more operation told behind =
-        behind ∙ simp (next, trees_read_at, operation, (kept-got nothing _ told).1, add-one, suc-add, add-suc)
+    count-more operation told = simp (next, trees_read_at, operation, (kept-got nothing _ told).1, add-one, suc-add, add-suc)
 
 -- ---- the tree part and the book
 
@@ -56,9 +54,9 @@ module _ (bs : List ℕ) (S : Symbols) (p : ℕ) where
   unopened_counted opened = simp (trees_read, ← opened)
 
   -- its trees are counted
-  pub opened-counted : {e q r : ℕ} → got e q ≡ length_at bs 0 (length bs) p → r ≡ 0 + trees_read_at bs S e S q → r ≡ trees_read bs S p
+  pub opened-counted : {e q r : ℕ} → got e q ≡ length_at bs 0 (length bs) p → r ≡ trees_read_at bs S e S q → r ≡ trees_read bs S p
   unfolding trees_read
-  opened-counted opened counted = counted ∙ simp (trees_read, ← opened, zero-add)
+  opened-counted opened counted = counted ∙ simp (trees_read, ← opened)
 
 module _ (bs : List ℕ) where
   -- a symbol is at fault

@@ -3,6 +3,7 @@ use mathlib.Core.Bool.{Bool, true, false}
 use mathlib.Core.List.{List, [], ◌∷◌}
 use mathlib.Core.Path.{◌≡◌, refl, sym, ap, ◌∙◌}
 use Prim.Native.Nat.{ℕ, suc, ◌+◌, ◌≤◌, ◌<◌}
+use native.Mathlib.Numerals.{add-one}
 use borrow.Author.Tests.{lt-ltb, le-ltb}
 use lib.ListN.{length, set}
 use Rattle.limits.specs.Sizes.{most_variables}
@@ -141,6 +142,34 @@ module _ (bs : List ℕ) (S : Symbols) (e : ℕ) where
               let whole : trees_of bs S e (x ∷ rest) p ≡ refusal c u = operation-first x rest p operation ∙ then-got _ t.1 ∙ then-refusal _ found in
               record { answer = next.answer ∙ rw (found, whole, keeping); index = rw (whole, Indexed) tt }
 
+  -- the trees of the symbols before f were read and indexed, up to p: what those of the symbols from f on give, all of them give
+  pub record Reached (from : ℕ) (was before : List ℕ) (p f : ℕ) (rest : Symbols) (info ends : List ℕ) : Type 0 where
+    pub all : (r : Reading ℕ) (info' ends' : List ℕ) → Listed p f rest r info info' ends ends' → Listed from 0 S r was info' before ends'
+
+  module _ (from : ℕ) (was before : List ℕ) where
+    -- at first none was
+    pub reached-first : Reached from was before from 0 S was before
+    reached-first = record { all = λ r info' ends' listed. listed }
+
+    module _ (p f : ℕ) (info ends : List ℕ) {here : Symbols} (on : Reached from was before p f here info ends) where
+      -- behind the last symbol all were
+      pub reached-last : here ≡ [] → Listed from 0 S (got 0 p) was info before ends
+      reached-last none = on.all (got 0 p) info ends (rw none (listed-none p f info ends))
+
+      module _ (x : Symbol) (rest : Symbols) (next : here ≡ x ∷ rest) where
+        pub reached-past : x.is_operation ≡ false → Reached from was before p (f + 1) rest info ends
+        reached-past none =
+            rw (add-one f) (record { all = λ r info' ends' listed. on.all r info' ends' (rw next (listed-past p f info ends x rest info' ends' r none listed)) })
+
+        pub reached-refused : {c q : ℕ} (info' ends' : List ℕ) → x.is_operation ≡ true → refusal c q ≡ keeping nothing (item_at bs S e x p)
+            → Listed from 0 S (refusal c q) was info' before ends'
+        reached-refused info' ends' operation told = on.all _ info' ends' (rw next (listed-refused p f info ends x rest info' ends' operation told))
+
+        pub reached-read : {v q : ℕ} (mid : List ℕ) → x.is_operation ≡ true → Told (p + 2) (got v q) (item_at bs S e x p) ends mid
+            → Reached from was before q (f + 1) rest (set info f (p + 2)) mid
+        reached-read mid operation told =
+            rw (add-one f) (record { all = λ r info' ends' listed. on.all r info' ends' (rw next (listed-read p f info ends x rest info' ends' mid r operation told listed)) })
+
 -- ---- the whole part
 
 -- what it is that trees are indexed, where they were read
@@ -153,45 +182,42 @@ module _ (p f : ℕ) (rest : Symbols) (info' info ends' ends : List ℕ) {r : Re
   unfolding Indexed
   read_indexed roots marks = rw (read, Indexed) (roots, marks)
 
-module _ (bs : List ℕ) (S : Symbols) (p : ℕ) (info' info ends' ends : List ℕ) where
-  -- an answer tells the tree part, and its trees are indexed
-  pub record PartRead (r : Reading ℕ) : Type 0 where
-    pub answer : r ≡ keeping nothing (tree_part bs S p)
-    pub index : Indexed (p + 2) 0 S (tree_part bs S p) info' info ends' ends
+module _ (bs : List ℕ) (S : Symbols) (p : ℕ) where
+  refused-part : {c q : ℕ} → tree_part bs S p ≡ refusal c q → refusal c q ≡ keeping nothing (tree_part bs S p)
+  unfolding keeping
+  refused-part whole = rw (whole, keeping)
 
-  refused-part : {c q : ℕ} → tree_part bs S p ≡ refusal c q → PartRead (refusal c q)
-  unfolding keeping Indexed
-  refused-part whole = record { answer = rw (whole, keeping); index = rw (whole, Indexed) tt }
-
-  pub part_unopened : {c q : ℕ} → refusal c q ≡ length_at bs 0 (length bs) p → PartRead (refusal c q)
+  pub part_unopened : {c q : ℕ} → refusal c q ≡ length_at bs 0 (length bs) p → refusal c q ≡ keeping nothing (tree_part bs S p)
   unfolding tree_part
   part_unopened r = refused-part (then-refusal _ (sym r))
 
   module _ {e q : ℕ} (opened : got e q ≡ length_at bs 0 (length bs) p) where
-    pub part-refused : {c r : ℕ} → refusal c r ≡ keeping nothing (trees_of bs S e S q) → PartRead (refusal c r)
+    pub part-refused : {c r : ℕ} → refusal c r ≡ keeping nothing (trees_of bs S e S q) → refusal c r ≡ keeping nothing (tree_part bs S p)
     unfolding tree_part
     part-refused told = refused-part (then-got _ (sym opened) ∙ then-refusal _ (kept-refusal nothing _ told))
 
-    module _ {v r : ℕ} (listed : Listed bs S e q 0 S (got v r) info' info ends' ends) where
-      pub part-left-over : r < e → PartRead (refusal 1 r)
+    module _ {v r : ℕ} (told : got v r ≡ keeping nothing (trees_of bs S e S q)) where
+      pub part-left-over : r < e → refusal 1 r ≡ keeping nothing (tree_part bs S p)
       unfolding tree_part
-      part-left-over l = refused-part (then-got _ (sym opened) ∙ then-got _ (kept-got nothing _ listed.answer).1 ∙ failed-test _ _ _ (lt-ltb r e l))
+      part-left-over l = refused-part (then-got _ (sym opened) ∙ then-got _ (kept-got nothing _ told).1 ∙ failed-test _ _ _ (lt-ltb r e l))
 
-      pub book-left-over : e ≤ r → r < length bs → PartRead (refusal 1 r)
-      unfolding tree_part
-      book-left-over h l = refused-part
-          (then-got _ (sym opened) ∙ then-got _ (kept-got nothing _ listed.answer).1 ∙ passed _ _ (le-ltb r e h) ∙ failed-test _ _ _ (lt-ltb r (length bs) l))
+      module _ (h : e ≤ r) where
+        pub book-left-over : r < length bs → refusal 1 r ≡ keeping nothing (tree_part bs S p)
+        unfolding tree_part
+        book-left-over l = refused-part
+            (then-got _ (sym opened) ∙ then-got _ (kept-got nothing _ told).1 ∙ passed _ _ (le-ltb r e h) ∙ failed-test _ _ _ (lt-ltb r (length bs) l))
 
-      pub part-read : e ≤ r → length bs ≤ r → PartRead (got 0 r)
-      unfolding tree_part keeping Indexed
-      part-read h l =
-          let ts = kept-got nothing _ listed.answer in
-          let whole : tree_part bs S p ≡ got ts.0 r = then-got _ (sym opened) ∙ then-got _ ts.1 ∙ passed _ _ (le-ltb r e h) ∙ passed _ _ (le-ltb r (length bs) l) in
-          let there = (good-got (length-good bs 0 (length bs) p) (sym opened)).0 in
-          let index = indexed_read q 0 S info' info ends' ends ts.1 listed.index in
-          record {
-            answer = sym (ap (keeping nothing) whole);
-            index = read_indexed (p + 2) 0 S info' info ends' ends whole
-                (index.0 ∙ ap (λ (k : ℕ). roots_from k 0 S ts.0 info') there)
-                (index.1 ∙ ap (λ (k : ℕ). ends_from k S ts.0 ends') there);
-          }
+        -- nothing is left over: the trees that were read are the part's
+        pub part-read : length bs ≤ r → (info' info ends' ends : List ℕ) → Indexed q 0 S (trees_of bs S e S q) info' info ends' ends
+            → (got 0 r ≡ keeping nothing (tree_part bs S p)) × Indexed (p + 2) 0 S (tree_part bs S p) info' info ends' ends
+        unfolding tree_part keeping Indexed
+        part-read l info' info ends' ends indexed =
+            let ts = kept-got nothing _ told in
+            let whole : tree_part bs S p ≡ got ts.0 r = then-got _ (sym opened) ∙ then-got _ ts.1 ∙ passed _ _ (le-ltb r e h) ∙ passed _ _ (le-ltb r (length bs) l) in
+            let there = (good-got (length-good bs 0 (length bs) p) (sym opened)).0 in
+            let index = indexed_read q 0 S info' info ends' ends ts.1 indexed in (
+              sym (ap (keeping nothing) whole),
+              read_indexed (p + 2) 0 S info' info ends' ends whole
+                  (index.0 ∙ ap (λ (k : ℕ). roots_from k 0 S ts.0 info') there)
+                  (index.1 ∙ ap (λ (k : ℕ). ends_from k S ts.0 ends') there),
+            )

@@ -1,16 +1,14 @@
 -- Reading a tree, one lemma for each way through the code.
 use mathlib.Core.List.{List, ◌∷◌, ◌++◌}
 use mathlib.Core.Path.{◌≡◌, refl, sym, ap, ap₂, ◌∙◌}
-use Prim.Native.Nat.{ℕ, zero, suc, ◌+◌, ◌≤◌, ◌<◌}
+use Prim.Native.Nat.{ℕ, zero, suc, ◌+◌, ◌<◌}
 use native.Mathlib.Omega.{arith}
 use borrow.Author.Tests.{eq-eqb, ne_eqb}
 use lib.ListN.{get_or, set}
 use Rattle.reading.specs.Reading.{Reading, got, refusal}
-use Rattle.reading.specs.Bytes.{version_of}
-use Rattle.reading.specs.Answer.{reading_of, keeping, nothing}
-use Rattle.reading.specs.declared.Reading.{Reading as Answered}
-use Rattle.reading.specs.declared.Reading.TheVariants.{Got, Refusal}
-use Rattle.reading.proofs.AtPlace.{byte_past, byte_got}
+use Rattle.reading.specs.Bytes.{version_of, byte_at}
+use Rattle.reading.specs.Answer.{keeping, nothing}
+use Rattle.reading.proofs.AtPlace.{byte_got}
 use Rattle.reading.proofs.Good.{good-got}
 use Rattle.reading.proofs.Keeping.{kept-got, kept-refusal, then-got, then-refusal, passed, failed-test}
 use Rattle.symbols.specs.Symbols.{Symbols, constructors_of}
@@ -19,7 +17,7 @@ use Rattle.expressions.proofs.Extents.{whole_extent}
 use Rattle.book.specs.Trees.{Tree, Trees, exempt, rule, branch}
 use Rattle.book.specs.TreeAt.{trees_with, branched_at, branch_at, tree_code_at, tree_in}
 use Rattle.book.specs.Index.{mark_tree, mark_trees}
-use Rattle.book.specs.Reader.{Marked, MarkedRow, handed_on, marked_by}
+use Rattle.book.specs.Reader.{Marked, MarkedRow}
 use Rattle.book.proofs.TreeExtents.{branched_extent, row_extent, tree_extent}
 
 -- a tree's reading is told by an answer, and its ends are marked
@@ -55,9 +53,9 @@ module _ (bs : List ℕ) (S : Symbols) (sort e : ℕ) (vars done : List ℕ) (p 
   unfolding tree_in
   no_depth was is = told-refused p was is refl
 
-  pub no_code : (depth : ℕ) (was is : List ℕ) → e ≤ p → Told p (refusal 1 e) (tree (suc depth)) was is
+  pub no_code : (depth : ℕ) (was is : List ℕ) {c q : ℕ} → refusal c q ≡ byte_at bs 0 e p → Told p (refusal c q) (tree (suc depth)) was is
   unfolding tree_in
-  no_code depth was is h = told-refused p was is (then-refusal _ (sym (byte_past bs 0 e p {b = 0} refl h)))
+  no_code depth was is told = told-refused p was is (then-refusal _ (sym told))
 
   module _ (depth : ℕ) (h : p < e) (was : List ℕ) where
     pub unknown_code : (is : List ℕ) → 2 < get_or bs p 0 → Told p (refusal 4 p) (tree (suc depth)) was is
@@ -79,16 +77,21 @@ module _ (bs : List ℕ) (S : Symbols) (sort e : ℕ) (vars done : List ℕ) (p 
     unfolding tree_code_at mark_tree
     exempt-read c first = told-read p was _ exempt (p + 1) (by_code depth h ∙ rw c (passed _ _ (ne_eqb (version_of bs) 2 first))) refl
 
-    -- a rule whose expression was answered by `r`
-    pub rule-read : (r : Answered) → get_or bs p 0 ≡ 1 → reading_of r ≡ keeping left_of (whole_at bs 0 S e vars sort (p + 1))
-        → Told p (handed_on r) (tree (suc depth)) was (marked_by r p was)
+    -- a rule whose expression was read
+    pub rule-read : {v n : ℕ} → get_or bs p 0 ≡ 1 → got v n ≡ keeping left_of (whole_at bs 0 S e vars sort (p + 1))
+        → Told p (got 0 n) (tree (suc depth)) was (set was p n)
     unfolding tree_code_at mark_tree whole_expr_at
-    rule-read (Got v n) c told =
+    rule-read {n} c told =
         let x = kept-got left_of (whole_at bs 0 S e vars sort (p + 1)) told in
         let at_n = good-got (whole_extent bs 0 S e vars sort (p + 1)) x.1 in
         told-read p was _ (rule x.0.what) n (by_code depth h ∙ rw c (then-got _ (then-got _ x.1))) (ap (set was p) (omega (arith, at_n.size)))
-    rule-read (Refusal k q) c told =
-        told-refused p was _ (by_code depth h ∙ rw c (then-refusal _ (then-refusal _ (kept-refusal left_of (whole_at bs 0 S e vars sort (p + 1)) told))))
+
+    -- a rule whose expression is refused
+    pub rule-refused : (is : List ℕ) {k q : ℕ} → get_or bs p 0 ≡ 1 → refusal k q ≡ keeping left_of (whole_at bs 0 S e vars sort (p + 1))
+        → Told p (refusal k q) (tree (suc depth)) was is
+    unfolding tree_code_at whole_expr_at
+    rule-refused is c told =
+        told-refused p was is (by_code depth h ∙ rw c (then-refusal _ (then-refusal _ (kept-refusal left_of (whole_at bs 0 S e vars sort (p + 1)) told))))
 
     -- a branch on a variable that is refused
     pub branch-refused : (is : List ℕ) {k q : ℕ} → get_or bs p 0 ≡ 2 → refusal k q ≡ branched_at bs S sort e vars done (p + 1)
@@ -103,16 +106,21 @@ module _ (bs : List ℕ) (S : Symbols) (sort e : ℕ) (vars done : List ℕ) (p 
     abbrev pub cases : ℕ → ℕ → Reading Trees
     cases x q = trees_with bs S sort e (within x) (constructors_of (get_or vars x 0) S) q
 
-    -- a branch on x whose cases were answered by `r` and marked
-    pub branch_read : (x q : ℕ) (r : Answered) (is : List ℕ) → get_or bs p 0 ≡ 2 → got x q ≡ branched_at bs S sort e vars done (p + 1)
-        → reading_of r ≡ keeping nothing (cases x q) → MarkedRow q (cases x q) was is → Told p (handed_on r) (tree (suc depth)) was (marked_by r p is)
+    -- a branch on x whose cases were read and marked
+    pub branch_read : {v n : ℕ} (x q : ℕ) (is : List ℕ) → get_or bs p 0 ≡ 2 → got x q ≡ branched_at bs S sort e vars done (p + 1)
+        → got v n ≡ keeping nothing (cases x q) → MarkedRow q (cases x q) was is → Told p (got 0 n) (tree (suc depth)) was (set is p n)
     unfolding tree_code_at branch_at mark_tree
-    branch_read x q (Got v n) is c var told marked =
+    branch_read {n} x q is c var told marked =
         let ts = kept-got nothing (cases x q) told in
         let behind = good-got (branched_extent bs S sort e vars done (p + 1)) (sym var) in
         let row = good-got (row_extent bs S sort e (within x) (λ sorts k. tree_extent bs S sort e depth (vars ++ sorts) (x ∷ done) k) _ q behind.1) ts.1 in
         let there : q ≡ p + 2 = omega (arith, behind.0) in
         told-read p was _ (branch x ts.0) n (by_code depth h ∙ rw c (then-got _ (sym var) ∙ then-got _ ts.1))
         (ap₂ (λ (m : List ℕ) (k : ℕ). set m p k) (marked-read q was is ts.1 marked ∙ ap (λ (k : ℕ). mark_trees k ts.0 was) there) (omega (arith, behind.0, row.size)))
-    branch_read x q (Refusal k j) is c var told marked =
-        told-refused p was _ (by_code depth h ∙ rw c (then-got _ (sym var) ∙ then-refusal _ (kept-refusal nothing (cases x q) told)))
+
+    -- a branch on x one of whose cases is refused
+    pub branch-cases-refused : (x q : ℕ) (is : List ℕ) {k j : ℕ} → get_or bs p 0 ≡ 2 → got x q ≡ branched_at bs S sort e vars done (p + 1)
+        → refusal k j ≡ keeping nothing (cases x q) → Told p (refusal k j) (tree (suc depth)) was is
+    unfolding tree_code_at branch_at
+    branch-cases-refused x q is c var told =
+        told-refused p was is (by_code depth h ∙ rw c (then-got _ (sym var) ∙ then-refusal _ (kept-refusal nothing (cases x q) told)))

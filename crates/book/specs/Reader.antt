@@ -1,9 +1,9 @@
 -- What the reader of trees keeps beside the bytes: the path's variables, and the ends that it marks.
-use Rattle.std.specs.Prelude.{false, List, ◌≡◌, ℕ, ◌≤◌, ◌<◌, length, get_or, set, take}
-use Rattle.limits.specs.Sizes.{most_book_bytes, most_variables, most_arguments, sorts_of_a_byte}
+use Rattle.std.specs.Prelude.{false, List, ◌≡◌, ℕ, ◌≤◌, ◌<◌, length, get_or, take, Result, Ok, Err}
+use Rattle.limits.specs.Sizes.{most_variables, most_arguments, sorts_of_a_byte}
 use Rattle.reading.specs.Reading.{Reading, got, refusal}
-use Rattle.reading.specs.declared.Reading.{Reading as Answered}
-use Rattle.reading.specs.declared.Reading.TheVariants.{Got, Refusal}
+use Rattle.reading.specs.Answer.{refusal_number}
+use Rattle.reading.specs.declared.Refusal.{Refusal}
 use Rattle.symbols.specs.Symbols.{Symbols, symbol_of}
 use Rattle.symbols.specs.Table.{in_array, nexts_from, firsts_from}
 use Rattle.book.specs.TreeAt.{is_in}
@@ -43,16 +43,7 @@ unfoldable pub Indexed : ℕ → ℕ → Symbols → Reading Trees → List ℕ 
 Indexed p f rest (got ts q) info' info ends' ends = (info ≡ roots_from p f rest ts info') × (ends ≡ ends_from p rest ts ends')
 Indexed p f rest (refusal c q) info' info ends' ends = Unit {0}
 
--- what `mark` hands on, and what it leaves
-abbrev pub handed_on : Answered → Reading ℕ
-handed_on (Got value next) = got 0 next
-handed_on (Refusal number place) = refusal number place
-
-abbrev pub marked_by : Answered → ℕ → List ℕ → List ℕ
-marked_by (Got value next) p ends = set ends p next
-marked_by (Refusal number place) p ends = ends
-
--- the place behind is one of the book's
-abbrev pub Inside : Answered → Type 0
-Inside (Got value next) = next ≤ most_book_bytes
-Inside (Refusal number place) = Unit {0}
+-- the answer of a reader that keeps nothing but the place behind what it read
+abbrev pub behind_of : Result ℕ Refusal → Reading ℕ
+behind_of (Ok next) = got 0 next
+behind_of (Err r) = refusal (refusal_number r) r.place

@@ -1,15 +1,20 @@
 -- What the reader of trees asks, and what it answers: the reading of the definition (TreeAt.antt) without its trees, and their ends marked.
-use Rattle.std.specs.Prelude.{false, List, ◌++◌, ◌≡◌, ℕ, ◌+◌, ◌≤◌, length, get_or, drop}
+use Rattle.std.specs.Prelude.{false, List, ◌++◌, ◌≡◌, ℕ, ◌+◌, ◌≤◌, length, get_or, Result, IfOk}
 use Rattle.limits.specs.Sizes.{most_symbols}
 use Rattle.reading.specs.Reading.{Reading}
-use Rattle.reading.specs.Answer.{reading_of, keeping, nothing}
-use Rattle.reading.specs.declared.Reading.{Reading as Answered}
-use Rattle.symbols.specs.Symbols.{Symbols, constructors_of}
+use Rattle.reading.specs.Answer.{reading_by, keeping, nothing}
+use Rattle.reading.specs.declared.Refusal.{Refusal}
+use Rattle.symbols.specs.Symbols.{constructors_of}
 use Rattle.symbols.specs.Table.{symbols_in, symbol_in}
 use Rattle.book.specs.Trees.{Tree, Trees}
 use Rattle.book.specs.TreeAt.{binds_past, trees_with, tree_in, item_at, trees_of, tree_part}
-use Rattle.book.specs.Reader.{Chained, vars_of, Branched, Marked, MarkedRow, Indexed}
+use Rattle.book.specs.Reader.{Chained, vars_of, Branched, Marked, MarkedRow, Indexed, behind_of}
 use Rattle.book.specs.declared.path.Path.{Path}
+use Rattle.book.specs.declared.trees.TreePart.{TreePart}
+
+-- what a reader of trees answers: the place behind them
+abbrev pub Answered : Type 0
+Answered = Result ℕ Refusal
 
 -- ---- what is asked
 
@@ -26,15 +31,11 @@ CasesFit bs at path branch = binds_past path.bound (constructors_of branch (symb
 
 -- a tree's reading at p, and where one was read its ends are marked
 abbrev pub ReadAs : ℕ → Reading Tree → Answered → List ℕ → List ℕ → Type 0
-ReadAs p t r was is = (reading_of r ≡ keeping nothing t) × Marked p t was is
+ReadAs p t r was is = (behind_of r ≡ keeping nothing t) × Marked p t was is
 
 -- the same of a row of trees from p on
 abbrev pub RowReadAs : ℕ → Reading Trees → Answered → List ℕ → List ℕ → Type 0
-RowReadAs p ts r was is = (reading_of r ≡ keeping nothing ts) × MarkedRow p ts was is
-
--- the same of the trees of operations from symbol f on, with where each stands: info and ends before, info' and ends' after
-abbrev pub IndexedAs : ℕ → ℕ → Symbols → Reading Trees → Answered → List ℕ → List ℕ → List ℕ → List ℕ → Type 0
-IndexedAs p f rest ts r info info' ends ends' = (reading_of r ≡ keeping nothing ts) × Indexed p f rest ts info info' ends ends'
+RowReadAs p ts r was is = (behind_of r ≡ keeping nothing ts) × MarkedRow p ts was is
 
 module _ (bs at : List ℕ) where
   -- a tree at p of an operation of result sort `sort`, in an item that ends at e, whatever was branched on as the path's flags say
@@ -54,11 +55,14 @@ module _ (bs at : List ℕ) where
   abbrev pub ItemRead : ℕ → ℕ → ℕ → Answered → List ℕ → List ℕ → Type 0
   ItemRead e f p r was is = ReadAs (p + 2) (item_at bs (symbols_in bs at) e (symbol_in bs (get_or at f 0)) p) r was is
 
-  -- the trees of the operations from symbol f on, the first of them opened at p
-  abbrev pub TreesRead : ℕ → ℕ → ℕ → Answered → List ℕ → List ℕ → List ℕ → List ℕ → Type 0
-  TreesRead e f p r info info' ends ends' =
-      IndexedAs p f (drop f (symbols_in bs at)) (trees_of bs (symbols_in bs at) e (drop f (symbols_in bs at)) p) r info info' ends ends'
+  -- the trees of the operations, the first of them opened at p, with where each stands: info and ends before, info' and ends' after
+  abbrev pub TreesRead : ℕ → ℕ → Answered → List ℕ → List ℕ → List ℕ → List ℕ → Type 0
+  TreesRead e p r info info' ends ends' =
+      (behind_of r ≡ keeping nothing (trees_of bs (symbols_in bs at) e (symbols_in bs at) p))
+      × Indexed p 0 (symbols_in bs at) (trees_of bs (symbols_in bs at) e (symbols_in bs at) p) info info' ends ends'
 
-  -- the tree part, opened at p, with nothing left over
-  abbrev pub PartRead : ℕ → Answered → List ℕ → List ℕ → List ℕ → List ℕ → Type 0
-  PartRead p r info info' ends ends' = IndexedAs (p + 2) 0 (symbols_in bs at) (tree_part bs (symbols_in bs at) p) r info info' ends ends'
+  -- the tree part, opened at p, with nothing left over, and its index over `info` and `ends`
+  abbrev pub PartRead : ℕ → Result TreePart Refusal → List ℕ → List ℕ → Type 0
+  PartRead p r info ends =
+      (reading_by (λ (part : TreePart). (0, part.next)) r ≡ keeping nothing (tree_part bs (symbols_in bs at) p))
+      × IfOk r (λ (part : TreePart). Indexed (p + 2) 0 (symbols_in bs at) (tree_part bs (symbols_in bs at) p) info part.info ends part.ends)

@@ -5,7 +5,7 @@ ghost use Rattle.book.specs.Reader.{vars_of};
 
 use limits::Limits;
 
-// Their sorts, and which of them were branched on.
+// Their sorts, and which of them were branched on. There is no heap: the sorts of the first `bound` variables stand in an array of all.
 #[derive(Clone, Copy)]
 pub struct Path {
     pub sorts: [u8; Limits::VARIABLES],
@@ -25,28 +25,23 @@ impl Path {
     }
 
     // The same path, behind a branch on variable x.
-    pub(crate) fn branched(self, x: usize) -> Path
+    pub(crate) fn branched(mut self, x: usize) -> Path
         requires { x < most_variables }
         ensures { (result.sorts ≡ self.sorts) × (result.bound ≡ self.bound) × (result.done ≡ set self.done x true) }
     {
-        let mut path = self;
-        path.done[x] = true;
-        path
+        self.done[x] = true;
+        self
     }
 
     // The same path, with variables of these sorts bound next.
-    pub(crate) fn binding(self, sorts: &[u8]) -> Path
+    pub(crate) fn binding(mut self, sorts: &[u8]) -> Path
         requires { self.bound + length sorts.now ≤ most_variables }
         ensures { (vars_of result ≡ vars_of self ++ sorts.now) × (result.bound ≡ self.bound + length sorts.now) × (result.done ≡ self.done) }
     {
-        let mut path = self;
-        let first = path.bound;
-        let mut j: usize = 0;
-        while j < sorts.len() {
-            path.sorts[first + j] = sorts[j];
-            j += 1;
-        }
-        path.bound = first + sorts.len();
-        path
+        let first = self.bound;
+        let end = first + sorts.len();
+        self.sorts[first..end].copy_from_slice(sorts);
+        self.bound = end;
+        self
     }
 }

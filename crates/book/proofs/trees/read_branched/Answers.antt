@@ -1,12 +1,12 @@
 -- `read_branched` meets its contract: one lemma for each of the variable's tests.
 use borrow.Author.Rules.{rules}
-use mathlib.Core.Path.{◌≡◌, sym, ap, ◌∙◌}
+use mathlib.Core.Path.{◌≡◌, sym, ◌∙◌}
 use Prim.Native.Nat.{◌≤◌}
 use native.Mathlib.Omega.{arith}
 use lib.ListN.{length}
 use lib.Seq.{length-take-le}
+use Rattle.std.proofs.lemmas.Result.{err_from_is_err_and}
 use Rattle.limits.specs.Sizes.{most_variables}
-use Rattle.reading.specs.Answer.{reading_of}
 use Rattle.symbols.specs.Table.{symbols_in}
 use Rattle.book.specs.Reader.{vars_of, Branched}
 use Rattle.book.proofs.Paths.{variable-missing, not_there, twice, past, fits}
@@ -20,54 +20,50 @@ room c =
     let full : length c.args.path.sorts ≡ most_variables = search rules in
     omega arith
 
+pub returns-in_err-x : goal.returns-in_err-x
+returns-in_err-x c =
+    let a = c.args in
+    let S = symbols_in a.book.now a.at.now in
+    let handed = err_from_is_err_and c.from_residual.result c.from_residual.ensures.1 in
+    λ sort done flags. rw (handed.1, handed.2) (variable-missing a.book.now S sort a.e (vars_of a.path) done a.p c.in_err-x.ensures)
+
 pub returns-then-path-x : goal.returns-then-path-x
-unfolding Branched
 returns-then-path-x c =
     let a = c.args in
     let S = symbols_in a.book.now a.at.now in
-    let byte = sym (ap reading_of c.in-Got.is) ∙ c.byte_at.ensures in
     let vars = length-take-le a.path.bound a.path.sorts (room (goal.at.returns-then-path-x c).Start) in
-    λ sort done flags. not_there a.book.now S sort a.e (vars_of a.path) done a.p byte (omega (arith, vars))
+    λ sort done flags. rw c.at.ensures (not_there a.book.now S sort a.e (vars_of a.path) done a.p c.in_ok-x.ensures (omega (arith, vars)))
 
 pub returns-then-path-x-2 : goal.returns-then-path-x-2
 unfolding Branched
 returns-then-path-x-2 c =
     let a = c.args in
     let S = symbols_in a.book.now a.at.now in
-    let byte = sym (ap reading_of c.in-Got.is) ∙ c.byte_at.ensures in
     let vars = length-take-le a.path.bound a.path.sorts (room (goal.at.returns-then-path-x-2 c).Start) in
-    λ sort done flags. twice a.book.now S sort a.e (vars_of a.path) done a.p byte (omega (arith, vars)) (flags c.in-Got.x (omega arith) ∙ c.if-path-x-2.true)
+    λ sort done flags. rw c.at-then-path-x-2.ensures
+    (twice a.book.now S sort a.e (vars_of a.path) done a.p c.in_ok-x.ensures (omega (arith, vars)) (flags c.in_ok-x.x (omega arith) ∙ c.if-path-x-2.true))
 
 pub returns-then-binds_past : goal.returns-then-binds_past
 unfolding Branched
 returns-then-binds_past c =
     let a = c.args in
     let S = symbols_in a.book.now a.at.now in
-    let byte = sym (ap reading_of c.in-Got.is) ∙ c.byte_at.ensures in
+    let x = c.in_ok-x.x in
+    let there = c.if-path-x.false in
     let vars = length-take-le a.path.bound a.path.sorts (room (goal.at.returns-then-binds_past c).Start) in
-    let x = c.in-Got.x in
-    let there = c.if-path-x.false in
     let same = past_bound S a.path.sorts a.path.bound x (room (goal.at.returns-then-binds_past c).Start) there in
-    λ sort done flags. past a.book.now S sort a.e (vars_of a.path) done a.p byte (omega (arith, vars)) (flags x (omega arith) ∙ c.if-path-x-2.false)
-    (same ∙ sym c.binds_past.ensures ∙ c.if-binds_past.true)
+    λ sort done flags. rw c.at-then-binds_past.ensures
+    (past a.book.now S sort a.e (vars_of a.path) done a.p c.in_ok-x.ensures (omega (arith, vars)) (flags x (omega arith) ∙ c.if-path-x-2.false)
+    (same ∙ sym c.binds_past.ensures ∙ c.if-binds_past.true))
 
-pub returns-in-Refusal : goal.returns-in-Refusal
+pub returns : goal.returns
 unfolding Branched
-returns-in-Refusal c =
+returns c =
     let a = c.args in
     let S = symbols_in a.book.now a.at.now in
-    let byte = sym (ap reading_of c.in-Refusal.is) ∙ c.byte_at.ensures in
-    λ sort done flags. variable-missing a.book.now S sort a.e (vars_of a.path) done a.p byte
-
-pub returns-else-binds_past : goal.returns-else-binds_past
-unfolding Branched
-returns-else-binds_past c =
-    let a = c.args in
-    let S = symbols_in a.book.now a.at.now in
-    let byte = sym (ap reading_of c.in-Got.is) ∙ c.byte_at.ensures in
-    let vars = length-take-le a.path.bound a.path.sorts (room (goal.at.returns-else-binds_past c).Start) in
-    let x = c.in-Got.x in
+    let x = c.in_ok-x.x in
     let there = c.if-path-x.false in
-    let same = past_bound S a.path.sorts a.path.bound x (room (goal.at.returns-else-binds_past c).Start) there in
-    λ sort done flags. fits a.book.now S sort a.e (vars_of a.path) done a.p byte (omega (arith, vars)) (flags x (omega arith) ∙ c.if-path-x-2.false)
+    let vars = length-take-le a.path.bound a.path.sorts (room (goal.at.returns c).Start) in
+    let same = past_bound S a.path.sorts a.path.bound x (room (goal.at.returns c).Start) there in
+    λ sort done flags. fits a.book.now S sort a.e (vars_of a.path) done a.p c.in_ok-x.ensures (omega (arith, vars)) (flags x (omega arith) ∙ c.if-path-x-2.false)
     (same ∙ sym c.binds_past.ensures ∙ c.if-binds_past.false)

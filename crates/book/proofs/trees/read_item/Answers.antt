@@ -6,10 +6,10 @@ use Prim.Native.Nat.{ℕ, suc, ◌≤◌, ◌<◌}
 use native.Mathlib.Omega.{arith}
 use lib.ListN.{length, get_or, take}
 use Rattle.limits.specs.Sizes.{most_variables, most_arguments}
-use Rattle.reading.specs.Reading.{Reading, got}
-use Rattle.reading.specs.Answer.{reading_of, keeping, nothing}
+use Rattle.reading.specs.Reading.{Reading}
+use Rattle.reading.specs.Answer.{keeping, nothing}
+use Rattle.reading.proofs.Exits.{handed_on}
 use Rattle.reading.proofs.Good.{good-got, length-good}
-use Rattle.reading.proofs.Keeping.{kept-got}
 use Rattle.symbols.specs.Symbols.{Symbol, Symbols}
 use Rattle.symbols.specs.Table.{symbol_in, symbols_in}
 use Rattle.symbols.proofs.Tables.{symbol-there, as_many}
@@ -43,8 +43,7 @@ pub read_tree-requires : goal.read_tree-requires
 read_tree-requires c =
     let few = few-there c.args.book.now c.args.at.now c.args.f c.requires.3 c.requires.4 in
     let arguments = ap length c.arguments_of.ensures.0 in
-    let opened = sym (ap reading_of c.in-Got.is) ∙ c.length_at.ensures in
-    let within = good-got (length-good c.args.book.now 0 c.args.e c.args.p) (sym opened) in (
+    let within = good-got (length-good c.args.book.now 0 c.args.e c.args.p) (sym c.in_ok-item.ensures) in (
       omega (arith, few, arguments, c.binding-path.ensures.1, c.empty.ensures.0),
       omega (arith, within.2, c.requires.0),
       omega (arith, within.2, c.requires.1),
@@ -52,13 +51,18 @@ read_tree-requires c =
     )
 
 -- what is told of the operation's tree, by the answer of its reader
-tree-told : (c : After-read_tree) {r : Reading ℕ} → reading_of c.read_tree.result ≡ r
+tree-told : (c : After-read_tree) {r : Reading ℕ}
     → let item = c in
     let a = c.args in
+    let S = symbols_in a.book.now a.at.now in
     let x = symbol_in a.book.now (get_or a.at.now a.f 0) in
-    let end = c.in-Got.item in
-    let q = c.in-Got.q in
-    Told q r (tree_in a.book.now (symbols_in a.book.now a.at.now) x.sort end (suc most_variables) x.arguments [] q) a.ends.now c.read_tree.new.ends
+    let end = c.in_ok-item.item in
+    let q = c.in_ok-item.q in
+    let path = c.binding-path.result in
+    ((done : List ℕ) → Branched path done
+    → let tree = tree_in a.book.now S c.sort_of-sort.result end (suc most_variables) (vars_of path) done q in
+    (r ≡ keeping nothing tree) × Marked q tree a.ends.now c.read_tree.new.ends)
+    → Told q r (tree_in a.book.now S x.sort end (suc most_variables) x.arguments [] q) a.ends.now c.read_tree.new.ends
 unfolding Branched
 tree-told c answered =
     let sort = c.sort_of-sort in
@@ -69,41 +73,36 @@ tree-told c answered =
     let a = c.args in
     let vars = path.ensures.0 ∙ ap (λ (n : ℕ). take n empty.result.sorts ++ sorts.result.now) empty.ensures.0 ∙ sorts.ensures.0 in
     let flags = subst (λ (is : List Bool). Flags is []) (sym (path.ensures.2 ∙ empty.ensures.1)) flags_none in
-    let told = c.read_tree.ensures [] flags in
     operation-told a.book.now (symbols_in a.book.now a.at.now) (symbol_in a.book.now (get_or a.at.now a.f 0))
-    c.in-Got.item c.in-Got.q sort.result (vars_of path.result) sort.ensures vars (sym answered ∙ told.0, told.1)
+    c.in_ok-item.item c.in_ok-item.q sort.result (vars_of path.result) sort.ensures vars (answered [] flags)
 
-pub returns-in-Refusal : goal.returns-in-Refusal
-returns-in-Refusal c =
+pub returns-in_err-item : goal.returns-in_err-item
+returns-in_err-item c =
     let a = c.args in
     let x = symbol_in a.book.now (get_or a.at.now a.f 0) in
-    let told = item_unopened a.book.now (symbols_in a.book.now a.at.now) a.e x a.p a.ends.now a.ends.now
-    (sym (ap reading_of c.in-Refusal.is) ∙ c.length_at.ensures) in
-    (told.answer, told.marks)
+    let told = item_unopened a.book.now (symbols_in a.book.now a.at.now) a.e x a.p a.ends.now a.ends.now c.in_err-item.ensures in
+    rw (handed_on _ c.from_residual.ensures.1) (told.answer, told.marks)
 
-pub returns-in-Refusal-read_tree : goal.returns-in-Refusal-read_tree
-returns-in-Refusal-read_tree c =
+pub returns-in_err-behind : goal.returns-in_err-behind
+returns-in_err-behind c =
     let a = c.args in
     let x = symbol_in a.book.now (get_or a.at.now a.f 0) in
-    let opened = sym (ap reading_of c.in-Got.is) ∙ c.length_at.ensures in
-    let read = tree-told (goal.at.returns-in-Refusal-read_tree c).After-read_tree (ap reading_of c.in-Refusal-read_tree.is) in
-    let told = item_refused a.book.now (symbols_in a.book.now a.at.now) a.e x a.p a.ends.now c.read_tree.new.ends opened read.answer in
-    (told.answer, told.marks)
+    let read = tree-told (goal.at.returns-in_err-behind c).After-read_tree c.in_err-behind.ensures in
+    let told = item_refused a.book.now (symbols_in a.book.now a.at.now) a.e x a.p a.ends.now c.read_tree.new.ends c.in_ok-item.ensures read.answer in
+    rw (handed_on _ c.from_residual-in_err-behind.ensures.1) (told.answer, told.marks)
 
 pub returns-then-behind-item : goal.returns-then-behind-item
 returns-then-behind-item c =
     let a = c.args in
     let x = symbol_in a.book.now (get_or a.at.now a.f 0) in
-    let opened = sym (ap reading_of c.in-Got.is) ∙ c.length_at.ensures in
-    let read = tree-told (goal.at.returns-then-behind-item c).After-read_tree (ap reading_of c.in-Got-read_tree.is) in
-    let told = item-left-over a.book.now (symbols_in a.book.now a.at.now) a.e x a.p a.ends.now c.read_tree.new.ends opened read c.if-behind-item.true in
-    (told.answer, told.marks)
+    let read = tree-told (goal.at.returns-then-behind-item c).After-read_tree c.in_ok-behind.ensures in
+    let told = item-left-over a.book.now (symbols_in a.book.now a.at.now) a.e x a.p a.ends.now c.read_tree.new.ends c.in_ok-item.ensures read c.if-behind-item.true in
+    rw c.at.ensures (told.answer, told.marks)
 
-pub returns-else-behind-item : goal.returns-else-behind-item
-returns-else-behind-item c =
+pub returns : goal.returns
+returns c =
     let a = c.args in
     let x = symbol_in a.book.now (get_or a.at.now a.f 0) in
-    let opened = sym (ap reading_of c.in-Got.is) ∙ c.length_at.ensures in
-    let read = tree-told (goal.at.returns-else-behind-item c).After-read_tree (ap reading_of c.in-Got-read_tree.is) in
-    let told = item-read a.book.now (symbols_in a.book.now a.at.now) a.e x a.p a.ends.now c.read_tree.new.ends opened read c.if-behind-item.false in
-    (ap (λ (v : ℕ). got v c.in-Got-read_tree.behind) (sym (kept-got nothing _ read.answer).2) ∙ told.answer, told.marks)
+    let read = tree-told (goal.at.returns c).After-read_tree c.in_ok-behind.ensures in
+    let told = item-read a.book.now (symbols_in a.book.now a.at.now) a.e x a.p a.ends.now c.read_tree.new.ends c.in_ok-item.ensures read c.if-behind-item.false in
+    (told.answer, told.marks)
