@@ -62,13 +62,12 @@ module _ (bs : List ℕ) (base : ℕ) (S : Symbols) (e : ℕ) (vars : List ℕ) 
     pub place : q ≡ p + 2 * count + 2
     pub whole : (f : ℕ) → e ≤ p + 1 + f → Whole f ≡ outward f (suc count) (keeping left_of (expr_at bs base S e (f - count) vars (asked (suc count)) left q))
 
-  -- what stands in one, at q, is read, and the bodies of it and of those around it are to be
-  pub record Outward (q : ℕ) (r : Reading ℕ) : Type 0 where
-    pub count : ℕ
-    pub place : q ≡ p + 2 * count + 2
-    pub whole : (f : ℕ) → e ≤ p + 1 + f → Whole f ≡ outward f (suc count) r
-    pub onward : (v n : ℕ) → r ≡ got v n → q ≤ n
-    pub inside : q ≤ e
+  -- what stands in the k-th, k > 0, is read, and the bodies of it and of those around it are to be
+  pub record Outward (k : ℕ) (r : Reading ℕ) : Type 0 where
+    pub some : 0 < k
+    pub whole : (f : ℕ) → e ≤ p + 1 + f → Whole f ≡ outward f k r
+    pub onward : (v n : ℕ) → r ≡ got v n → p + 2 * k ≤ n
+    pub inside : p + 2 * k ≤ e
 
   -- at first none is around it
   pub inward_none : Inward p
@@ -110,61 +109,60 @@ module _ (bs : List ℕ) (base : ℕ) (S : Symbols) (e : ℕ) (vars : List ℕ) 
   }
 
   -- it is read
-  pub within-read : {q t : ℕ} {r : Reading ℕ} → Within q → q ≤ e → t ≡ get_or bs (q - 1) 0
-      → ((f : ℕ) → e ≤ q + f → r ≡ keeping left_of (expr_at bs base S e f vars t left q)) → Outward q r
+  pub within-read : {q k t : ℕ} {r : Reading ℕ} → Within q → q ≡ p + 2 * k → q ≤ e → t ≡ get_or bs (q - 1) 0
+      → ((f : ℕ) → e ≤ q + f → r ≡ keeping left_of (expr_at bs base S e f vars t left q)) → Outward k r
   unfolding asked
-  within-read {q} {t} at inside byte read =
-      let k = at.count in
-      let named : t ≡ asked (suc k) = byte ∙ ap (λ (n : ℕ). get_or bs n 0) (omega (arith, at.place)) in
+  within-read {q} {k} {t} {r} at place inside byte read =
+      let j = at.count in
+      let deep : suc j ≡ k = omega (arith, at.place) in
+      let named : t ≡ asked (suc j) = byte ∙ ap (λ (n : ℕ). get_or bs n 0) (omega (arith, at.place)) in
       record {
-        count = k;
-        place = at.place;
+        some = omega arith;
         whole = λ f h.
-            at.whole f h ∙ ap (outward f (suc k)) (sym (read (f - k) (omega (arith, at.place)) ∙ ap (λ (s : ℕ). keeping left_of (expr_at bs base S e (f - k) vars s left q)) named));
-        onward = λ v n is. (expr_onward bs base S e vars t left q e (sym is ∙ read e (omega arith))).1;
-        inside = inside;
+            at.whole f h ∙ ap (outward f (suc j)) (sym (read (f - j) (omega (arith, at.place)) ∙ ap (λ (s : ℕ). keeping left_of (expr_at bs base S e (f - j) vars s left q)) named))
+            ∙ ap (λ (n : ℕ). outward f n r) deep;
+        onward = λ v n is. omega (arith, (expr_onward bs base S e vars t left q e (sym is ∙ read e (omega arith))).1);
+        inside = omega arith;
       }
 
   -- what was refused behind it is refused
-  pub outward_refused : {q c n : ℕ} → Outward q (refusal c n) → (f : ℕ) → e ≤ p + 1 + f → refusal c n ≡ Whole f
-  outward_refused {c} {n} at f h = sym (at.whole f h ∙ outward_refusal f (suc at.count) c n)
+  pub outward_refused : {k c n : ℕ} → Outward k (refusal c n) → (f : ℕ) → e ≤ p + 1 + f → refusal c n ≡ Whole f
+  outward_refused {k} {c} {n} at f h = sym (at.whole f h ∙ outward_refusal f k c n)
 
   -- what a body's reader gives at r, with so many nodes left, at whatever depth is enough
   abbrev Body : ℕ → ℕ → ℕ → ℕ → Reading ℕ → Type 0
   Body t s l r next = (f : ℕ) → e ≤ r + f → next ≡ keeping left_of (expr_at bs base S e f (vars ++ (t ∷ [])) s l r)
 
   -- one body further out
-  pub outward_more : {q t s l r : ℕ} {next : Reading ℕ} → Outward q (got l r) → p + 2 < q → t ≡ get_or bs (q - 2 + 1) 0 → s ≡ get_or bs (q - 2 - 1) 0 → Body t s l r next → Outward (q - 2) next
+  pub outward_more : {n k t s l r : ℕ} {next : Reading ℕ} → Outward n (got l r) → n ≡ k + 1 → 0 < k → t ≡ get_or bs (p + 2 * k + 1) 0 → s ≡ get_or bs (p + 2 * k - 1) 0 → Body t s l r next → Outward k next
   unfolding outward body asked body_with ◌then◌
-  outward_more {q} {t} {s} {l} {r} {next} at further first_byte body-byte read = by at.count at.place at.whole
+  outward_more {n} {k} {t} {s} {l} {r} {next} at further some first body-byte read = by k refl
     where
-      by : (k : ℕ) → q ≡ p + 2 * k + 2 → ((f : ℕ) → e ≤ p + 1 + f → Whole f ≡ outward f (suc k) (got l r)) → Outward (q - 2) next
-      by zero place whole = absurd (omega arith)
-      by (suc k) place whole =
-          let first : t ≡ asked (suc (suc k)) = first_byte ∙ ap (λ (n : ℕ). get_or bs n 0) (omega arith) in
-          let around : s ≡ asked (suc k) = body-byte ∙ ap (λ (n : ℕ). get_or bs n 0) (omega arith) in
+      by : (j : ℕ) → j ≡ k → Outward k next
+      by zero is = absurd (omega arith)
+      by (suc j) is =
+          let one-more : n ≡ suc k = omega arith in
+          let around : s ≡ asked k = body-byte ∙ ap (λ (n : ℕ). get_or bs n 0) (omega arith) ∙ ap asked is in
           record {
-            count = k;
-            place = omega arith;
+            some = some;
             whole = λ f h.
-                whole f h ∙ ap (outward f (suc k)) (sym (read (f - suc k) (omega (arith, at.onward l r refl))
-                ∙ ap (λ (x : ℕ). keeping left_of (expr_at bs base S e (f - suc k) (vars ++ (x ∷ [])) s l r)) first
-                ∙ ap (λ (x : ℕ). keeping left_of (expr_at bs base S e (f - suc k) (vars ++ (asked (suc (suc k)) ∷ [])) x l r)) around));
-            onward = λ v n is.
-                let further = expr_onward bs base S e (vars ++ (t ∷ [])) s l r e (sym is ∙ read e (omega arith)) in
+                at.whole f h ∙ ap (λ (m : ℕ). outward f m (got l r)) one-more
+                ∙ ap (outward f k) (sym (read (f - k) (omega (arith, at.onward l r refl))
+                ∙ ap (λ (x : ℕ). keeping left_of (expr_at bs base S e (f - k) (vars ++ (x ∷ [])) s l r)) first
+                ∙ ap (λ (x : ℕ). keeping left_of (expr_at bs base S e (f - k) (vars ++ (asked (suc k) ∷ [])) x l r)) around));
+            onward = λ v n at-n.
+                let further = expr_onward bs base S e (vars ++ (t ∷ [])) s l r e (sym at-n ∙ read e (omega arith)) in
                 omega (arith, at.onward l r refl, further.1);
             inside = omega (arith, at.inside);
           }
 
   -- the outermost
-  pub outward_last : {q t l r : ℕ} {next : Reading ℕ} → Outward q (got l r) → q ≤ p + 2 → t ≡ get_or bs (p + 1) 0 → Body t sort l r next → (f : ℕ) → e ≤ p + 1 + f → next ≡ Whole f
+  pub outward_last : {k t l r : ℕ} {next : Reading ℕ} → Outward k (got l r) → k ≤ 1 → t ≡ get_or bs (p + 1) 0 → Body t sort l r next → (f : ℕ) → e ≤ p + 1 + f → next ≡ Whole f
   unfolding outward body asked body_with ◌then◌
-  outward_last {q} {t} {l} {r} {next} at last byte read f h = by at.count at.place (at.whole f h)
-    where
-      by : (k : ℕ) → q ≡ p + 2 * k + 2 → Whole f ≡ outward f (suc k) (got l r) → next ≡ Whole f
-      by zero place whole =
-          let named : t ≡ asked 1 = byte ∙ ap (λ (n : ℕ). get_or bs n 0) (omega arith) in
-          read f (omega (arith, at.onward l r refl))
-          ∙ sym (whole ∙ ap (λ (x : ℕ). body_with (expr_at bs base S e x (vars ++ (asked 1 ∷ []))) sort (got l r)) (sub-zero f)
-          ∙ ap (λ (x : ℕ). keeping left_of (expr_at bs base S e f (vars ++ (x ∷ [])) sort l r)) (sym named))
-      by (suc k) place whole = absurd (omega arith)
+  outward_last {k} {t} {l} {r} {next} at last byte read f h =
+      let one : k ≡ 1 = omega (arith, at.some) in
+      let named : t ≡ asked 1 = byte ∙ ap (λ (n : ℕ). get_or bs n 0) (omega arith) in
+      read f (omega (arith, at.onward l r refl))
+      ∙ sym (at.whole f h ∙ ap (λ (n : ℕ). outward f n (got l r)) one
+      ∙ ap (λ (x : ℕ). body_with (expr_at bs base S e x (vars ++ (asked 1 ∷ []))) sort (got l r)) (sub-zero f)
+      ∙ ap (λ (x : ℕ). keeping left_of (expr_at bs base S e f (vars ++ (x ∷ [])) sort l r)) (sym named))

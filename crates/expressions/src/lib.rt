@@ -122,15 +122,10 @@ impl<'a> Item<'a> {
             }
         }
         let (mut rest, mut next) = self.read_expr(vars, byte(self.s, q - 1), left, q)?;
-        'outward: while p + 2 < q {
-            q -= 2;
-            (rest, next) = self.read_body(
-                vars,
-                byte(self.s, q + 1),
-                byte(self.s, q - 1),
-                rest,
-                next,
-            )?;
+        for k in (1..(q - p) / 2).rev() {
+            let first = p + 2 * k;
+            let (sort, around) = (byte(self.s, first + 1), byte(self.s, first - 1));
+            (rest, next) = self.read_body(vars, sort, around, rest, next)?;
         }
         self.read_body(vars, byte(self.s, p + 1), sort, rest, next)
     }

@@ -1,6 +1,6 @@
 -- `read_expr`, `read_row`, `read_shared` and `read_body` meet their contracts: at whatever depth is enough, each is one level of the definition over the
 -- others; `read_shared` as many levels as shared parts stand directly in each other, whose codes it reads inward and whose bodies outward.
-use Prim.Native.Nat.{ℕ, ◌+◌}
+use Prim.Native.Nat.{ℕ, ◌+◌, ◌-◌}
 use mathlib.Core.Path.{◌≡◌, refl, sym, ap, ◌∙◌}
 use native.Mathlib.Numerals.{add-one}
 use native.Mathlib.Omega.{arith}
@@ -167,41 +167,42 @@ read_shared-returns-in_err-rest t c =
     let l = c.inward in
     let r = err_from_is_err_and c.from_residual.result c.from_residual.ensures.1 in
     let within = inward_within i.s.now (base_of i.who) (symbols_of i) (length i.s.now) a.vars.now a.sort a.left a.p l.invariant (omega arith) (omega arith) c.byte-in-inward.ensures (omega arith) (omega arith) in
-    let refused = within-read i.s.now (base_of i.who) (symbols_of i) (length i.s.now) a.vars.now a.sort a.left a.p within (omega arith) c.byte-2.ensures c.in_err-rest.ensures in
+    let refused = within-read i.s.now (base_of i.who) (symbols_of i) (length i.s.now) a.vars.now a.sort a.left a.p {k = within.count + 1} within (omega (arith, within.place)) (omega arith) c.byte-2.ensures c.in_err-rest.ensures in
     λ f h. rw (r.1, r.2) (outward_refused i.s.now (base_of i.who) (symbols_of i) (length i.s.now) a.vars.now a.sort a.left a.p refused f h)
 
-pub read_shared-outward-init : goal.read_shared-outward-init
-read_shared-outward-init t c =
+pub read_shared-loop-k-init : goal.read_shared-loop-k-init
+read_shared-loop-k-init t c =
     let a = c.args in
     let i = a.self.now in
     let l = c.inward in
     let within = inward_within i.s.now (base_of i.who) (symbols_of i) (length i.s.now) a.vars.now a.sort a.left a.p l.invariant (omega arith) (omega arith) c.byte-in-inward.ensures (omega arith) (omega arith) in
-    within-read i.s.now (base_of i.who) (symbols_of i) (length i.s.now) a.vars.now a.sort a.left a.p within (omega arith) c.byte-2.ensures c.in_ok-rest.ensures
+    within-read i.s.now (base_of i.who) (symbols_of i) (length i.s.now) a.vars.now a.sort a.left a.p within (omega (arith, within.place)) (omega arith) c.byte-2.ensures c.in_ok-rest.ensures
 
 pub read_shared-read_body-requires : goal.read_shared-read_body-requires
 read_shared-read_body-requires t c =
-    let l = c.outward in
-    (omega (arith, l.invariant.place, l.invariant.onward l.rest l.next refl), omega arith)
+    let l = c.loop-k in
+    let onward = l.invariant.onward l.rest l.next refl in
+    (omega (arith, onward), omega arith)
 
 pub read_shared-returns-in_err-rest-2 : goal.read_shared-returns-in_err-rest-2
 read_shared-returns-in_err-rest-2 t c =
     let a = c.args in
     let i = a.self.now in
-    let l = c.outward in
+    let l = c.loop-k in
     let r = err_from_is_err_and c.from_residual-in_err-rest-2.result c.from_residual-in_err-rest-2.ensures.1 in
-    let refused = outward_more i.s.now (base_of i.who) (symbols_of i) (length i.s.now) a.vars.now a.sort a.left a.p l.invariant c.outward-test.true c.byte-in-outward.ensures c.byte-in-outward-2.ensures c.in_err-rest-2.ensures in
+    let refused = outward_more i.s.now (base_of i.who) (symbols_of i) (length i.s.now) a.vars.now a.sort a.left a.p {k = l.k - 1} l.invariant (omega arith) (omega arith) c.byte-sort.ensures c.byte-around.ensures c.in_err-rest-2.ensures in
     λ f h. rw (r.1, r.2) (outward_refused i.s.now (base_of i.who) (symbols_of i) (length i.s.now) a.vars.now a.sort a.left a.p refused f h)
 
-pub read_shared-outward-preserved : goal.read_shared-outward-preserved
-read_shared-outward-preserved t c =
+pub read_shared-loop-k-preserved : goal.read_shared-loop-k-preserved
+read_shared-loop-k-preserved t c =
     let a = c.args in
     let i = a.self.now in
-    let l = c.outward in
-    outward_more i.s.now (base_of i.who) (symbols_of i) (length i.s.now) a.vars.now a.sort a.left a.p l.invariant c.outward-test.true c.byte-in-outward.ensures c.byte-in-outward-2.ensures c.in_ok-rest-2.ensures
+    let l = c.loop-k in
+    outward_more i.s.now (base_of i.who) (symbols_of i) (length i.s.now) a.vars.now a.sort a.left a.p {k = l.k - 1} l.invariant (omega arith) (omega arith) c.byte-sort.ensures c.byte-around.ensures c.in_ok-rest-2.ensures
 
 pub read_shared-returns : goal.read_shared-returns
 read_shared-returns t c =
     let a = c.args in
     let i = a.self.now in
-    let l = c.outward in
-    outward_last i.s.now (base_of i.who) (symbols_of i) (length i.s.now) a.vars.now a.sort a.left a.p l.invariant c.outward-test.false c.byte-3.ensures c.read_body-2.ensures
+    let l = c.loop-k in
+    outward_last i.s.now (base_of i.who) (symbols_of i) (length i.s.now) a.vars.now a.sort a.left a.p l.invariant c.loop-k-test.false c.byte-3.ensures c.read_body-2.ensures

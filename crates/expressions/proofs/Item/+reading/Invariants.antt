@@ -39,11 +39,8 @@ invariant-read_shared-inward l =
 abbrev pub decreases-read_shared-inward : goal.decreases-read_shared-inward
 decreases-read_shared-inward l = length l.self.s.now - l.q
 
--- what stood in it is read, or the bodies of those further in
-abbrev pub invariant-read_shared-outward : goal.invariant-read_shared-outward
-invariant-read_shared-outward l =
+-- what stands in the innermost is read, and the bodies of all but the first k
+abbrev pub invariant-read_shared-loop-k : goal.invariant-read_shared-loop-k
+invariant-read_shared-loop-k l =
     let i = l.self in
-    Outward i.s.now (base_of i.who) (symbols_of i) (length i.s.now) l.vars l.sort l.left l.p l.q (got l.rest l.next)
-
-abbrev pub decreases-read_shared-outward : goal.decreases-read_shared-outward
-decreases-read_shared-outward l = l.q
+    Outward i.s.now (base_of i.who) (symbols_of i) (length i.s.now) l.vars l.sort l.left l.p l.k (got l.rest l.next)
