@@ -158,10 +158,11 @@ applied-behind bs base S e sort p is = good-got behind (sym is)
     behind = then-good (number-good bs base e (p + 1)) λ f q at-q. unless _ _ _ λ _ _. unless _ _ _ λ _ _. good (omega (arith, at-q.1))
 
 -- one node is taken of those left
-node_taken : (base left p : ℕ) (more : ℕ → Reading (Left Expr)) → 0 < left → node_at base left p more ≡ more (left - 1)
+node_taken : (base left p : ℕ) (more : ℕ → Reading (Left Expr)) {less : ℕ} → left ≡ less + 1 → node_at base left p more ≡ more less
 unfolding node_at
-node_taken base zero p more h = absurd (omega arith)
-node_taken base (suc left) p more h = ap more (sym (sub-one (suc left)))
+node_taken base left p more {less} is =
+    let taken : left ≡ suc less = omega arith in
+    rw taken refl
 
 -- the part of an array that holds the sorts of a body's variables
 pub body_bound : (more vars : List ℕ) (t : ℕ) → take (length vars + 1) more ≡ vars ++ (t ∷ []) → part_of more 0 (length vars + 1) ≡ vars ++ (t ∷ [])
@@ -295,27 +296,27 @@ module _ (bs : List ℕ) (base : ℕ) (S : Symbols) (e : ℕ) (vars : List ℕ) 
       unfolding keeping
       expr-refused same h k none = rw same (ap (keeping left_of) (sym (by_code refl ∙ by-refused within (get_or bs p 0) h k none)))
 
-      module _ (some : 0 < left) where
+      module _ (less : ℕ) (some : left ≡ less + 1) where
         -- a failure is a node and no more
-        pub expr-fail : get_or bs p 0 ≡ 3 → got (left - 1) (p + 1) ≡ Kept
+        pub expr-fail : get_or bs p 0 ≡ 3 → got less (p + 1) ≡ Kept
         unfolding code_at keeping
         expr-fail is = ap (keeping left_of) (sym (by_code is ∙ node_taken base left p _ some))
 
         -- a row further on that is read, at whatever depth is enough, is read one level deeper
-        row_within : {r : Reading ℕ} (sorts : List ℕ) (q : ℕ) → p < q → ((n : ℕ) → e ≤ q + n → r ≡ keeping left_of (row_with (expr_at bs base S e n vars) sorts (left - 1) q))
-            → r ≡ keeping left_of (row_with (within vars) sorts (left - 1) q)
+        row_within : {r : Reading ℕ} (sorts : List ℕ) (q : ℕ) → p < q → ((n : ℕ) → e ≤ q + n → r ≡ keeping left_of (row_with (expr_at bs base S e n vars) sorts less q))
+            → r ≡ keeping left_of (row_with (within vars) sorts less q)
         row_within sorts q onward row = row (pred f) (deeper q onward)
 
         -- a choice, by the row of its two sides
         pub expr-choice : {r : Reading ℕ} → get_or bs p 0 ≡ 2
-            → ((n : ℕ) → e ≤ p + 1 + n → r ≡ keeping left_of (row_with (expr_at bs base S e n vars) (sort ∷ sort ∷ []) (left - 1) (p + 1))) → r ≡ Kept
+            → ((n : ℕ) → e ≤ p + 1 + n → r ≡ keeping left_of (row_with (expr_at bs base S e n vars) (sort ∷ sort ∷ []) less (p + 1))) → r ≡ Kept
         unfolding code_at
         expr-choice is row =
             row_within (sort ∷ sort ∷ []) (p + 1) (omega arith) row
-            ∙ sym (ap (keeping left_of) (by_code is ∙ node_taken base left p _ some) ∙ choice-row (within vars) sort (left - 1) p)
+            ∙ sym (ap (keeping left_of) (by_code is ∙ node_taken base left p _ some) ∙ choice-row (within vars) sort less p)
 
         -- one level of the definition for an application
-        apply_taken : get_or bs p 0 ≡ 1 → expr_at bs base S e f vars sort left p ≡ apply_at bs base S e (within vars) sort (left - 1) p
+        apply_taken : get_or bs p 0 ≡ 1 → expr_at bs base S e f vars sort left p ≡ apply_at bs base S e (within vars) sort less p
         unfolding code_at
         apply_taken is = by_code is ∙ node_taken base left p _ some
 
@@ -326,10 +327,10 @@ module _ (bs : List ℕ) (base : ℕ) (S : Symbols) (e : ℕ) (vars : List ℕ) 
 
         -- its symbol is read, and the row of its arguments behind it
         pub expr-applied : {r : Reading ℕ} {g q : ℕ} {sorts : List ℕ} → get_or bs p 0 ≡ 1 → got g q ≡ applied_at bs base S e sort p → sorts ≡ (symbol_of S g).arguments
-            → ((n : ℕ) → e ≤ q + n → r ≡ keeping left_of (row_with (expr_at bs base S e n vars) sorts (left - 1) q)) → r ≡ Kept
+            → ((n : ℕ) → e ≤ q + n → r ≡ keeping left_of (row_with (expr_at bs base S e n vars) sorts less q)) → r ≡ Kept
         unfolding apply_at
         expr-applied {g} {q} {sorts} is applied same row =
-            let more = left-made (Expr.apply g) (row_with (within vars) (symbol_of S g).arguments (left - 1) q) in
+            let more = left-made (Expr.apply g) (row_with (within vars) (symbol_of S g).arguments less q) in
             let behind = applied-behind bs base S e sort p applied in
             row_within sorts q (omega arith) row ∙ rw same (sym (ap (keeping left_of) (apply_taken is ∙ then-got _ (sym applied)) ∙ more))
 

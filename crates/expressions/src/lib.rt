@@ -4,16 +4,46 @@
 #![tactic(auto)]
 
 ghost use Rattle.std.specs.Prelude.{[], ◌∷◌, ◌++◌, ◌≡◌, ℕ, ◌+◌, ◌<◌, ◌≤◌, length, take};
+ghost use Rattle.std.specs.Option.{MatchOption};
+ghost use Rattle.std.specs.Result.{MatchResult};
 ghost use Rattle.limits.specs.Sizes.{most_variables};
-ghost use Rattle.reading.specs.Answer.{reading_of, keeping, base_of, part_of};
+ghost use Rattle.reading.specs.Answer.{reading_of, refusal_number, keeping, base_of, part_of};
 ghost use Rattle.symbols.specs.Table.{symbols_in};
 ghost use Rattle.expressions.specs.ExpressionAt.{left_of, row_with, whole_at};
 ghost use Rattle.expressions.specs.Items.{variable_in, applied_in, shared_in, expr_in};
+ghost use Rattle.expressions.specs.Codes.{number_of};
 ghost use Rattle.expressions.specs.Whose.{whose};
 
 use limits::Limits;
-use reading::{Asker, Fault, Reading, between, byte, number, part_of, wide_byte};
+use reading::{Asker, Fault, Reading, Refusal, between, byte, number, part_of, wide_byte};
 use symbols::table::{arguments_of, sort_of};
+
+// The code of an expression, as it stands in a book or a question.
+#[derive(Clone, Copy, Debug, PartialEq, Eq)]
+pub enum Code {
+    Variable = 0,
+    Apply = 1,
+    Choice = 2,
+    Fail = 3,
+    // Version byte 2 allows it.
+    Shared = 4,
+}
+
+impl Code {
+    // The code that a byte is; those above 4 are none.
+    pub fn of(byte: u8) -> Option<Code>
+        ensures { MatchOption result (4 < byte) (λ code. byte ≡ number_of code) }
+    {
+        match byte {
+            0 => Some(Code::Variable),
+            1 => Some(Code::Apply),
+            2 => Some(Code::Choice),
+            3 => Some(Code::Fail),
+            4 => Some(Code::Shared),
+            _ => None,
+        }
+    }
+}
 
 // The part of one of two lent slices that holds an expression, by who asked.
 fn part<'a>(book: &'a [u8], question: &'a [u8], who: Asker, from: usize, to: usize) -> &'a [u8]
@@ -82,6 +112,13 @@ impl<'a> Item<'a> {
         Ok((f, p + 3))
     }
 
+    // The allowance that is left behind a node whose code stands at p.
+    fn take_node(&self, left: usize, p: usize) -> Result<usize, Refusal>
+        ensures { MatchResult result (λ less. left ≡ less + 1) (λ r. (left ≡ 0) × (refusal_number r ≡ base_of self.now.who + 4) × (r.place ≡ p)) }
+    {
+        left.checked_sub(1).ok_or(Fault::Code.at(self.who, p))
+    }
+
     // The body of a shared part of sort t, at p behind its first, with one variable more: the allowance left behind it.
     #[cycle(reading)]
     fn read_body(&self, vars: &[u8], t: u8, sort: u8, left: usize, p: usize) -> Reading
@@ -109,6 +146,7 @@ impl<'a> Item<'a> {
             return Err(Fault::Code.at(self.who, p));
         }
         let mut q = p;
+        // It hops on as long as the bytes say so, so it is no `for`.
         'inward: loop {
             if between(q, e) < 2 {
                 return Err(Fault::Extent.at(self.who, e));
@@ -117,15 +155,15 @@ impl<'a> Item<'a> {
                 return Err(Fault::Symbol.at(self.who, q + 1));
             }
             q += 2;
-            if byte(self.s, q) != 4 {
+            if byte(self.s, q) != Code::Shared as u8 {
                 break;
             }
         }
         let (mut rest, mut next) = self.read_expr(vars, byte(self.s, q - 1), left, q)?;
         for k in (1..(q - p) / 2).rev() {
             let first = p + 2 * k;
-            let (sort, around) = (byte(self.s, first + 1), byte(self.s, first - 1));
-            (rest, next) = self.read_body(vars, sort, around, rest, next)?;
+            let (t, around) = (byte(self.s, first + 1), byte(self.s, first - 1));
+            (rest, next) = self.read_body(vars, t, around, rest, next)?;
         }
         self.read_body(vars, byte(self.s, p + 1), sort, rest, next)
     }
@@ -139,27 +177,23 @@ impl<'a> Item<'a> {
         if e <= p {
             return Err(Fault::Extent.at(self.who, e));
         }
-        let code = byte(self.s, p);
-        if code == 0 {
-            return self.read_variable(vars, sort, left, p);
-        }
-        if code == 4 {
-            return self.read_shared(vars, sort, left, p);
-        }
-        if 3 < code {
+        let Some(code) = Code::of(byte(self.s, p)) else {
             return Err(Fault::Code.at(self.who, p));
+        };
+        match code {
+            Code::Variable => self.read_variable(vars, sort, left, p),
+            Code::Apply => {
+                let left = self.take_node(left, p)?;
+                let (f, next) = self.read_applied(sort, p)?;
+                self.read_row(vars, arguments_of(self.book, self.at, f), left, next)
+            }
+            Code::Choice => {
+                let left = self.take_node(left, p)?;
+                self.read_row(vars, &[sort, sort], left, p + 1)
+            }
+            Code::Fail => Ok((self.take_node(left, p)?, p + 1)),
+            Code::Shared => self.read_shared(vars, sort, left, p),
         }
-        if left == 0 {
-            return Err(Fault::Code.at(self.who, p));
-        }
-        if code == 3 {
-            return Ok((left - 1, p + 1));
-        }
-        if code == 2 {
-            return self.read_row(vars, &[sort, sort], left - 1, p + 1);
-        }
-        let (f, next) = self.read_applied(sort, p)?;
-        self.read_row(vars, arguments_of(self.book, self.at, f), left - 1, next)
     }
 
     // A row of expressions, one for each of the sorts: the allowance left behind it.

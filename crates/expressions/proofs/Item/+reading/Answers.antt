@@ -1,6 +1,6 @@
 -- `read_expr`, `read_row`, `read_shared` and `read_body` meet their contracts: at whatever depth is enough, each is one level of the definition over the
 -- others; `read_shared` as many levels as shared parts stand directly in each other, whose codes it reads inward and whose bodies outward.
-use Prim.Native.Nat.{ℕ, ◌+◌, ◌-◌}
+use Prim.Native.Nat.{ℕ, ◌+◌, ◌-◌, ◌<◌}
 use mathlib.Core.Path.{◌≡◌, refl, sym, ap, ◌∙◌}
 use native.Mathlib.Numerals.{add-one}
 use native.Mathlib.Omega.{arith}
@@ -8,6 +8,7 @@ use lib.ListN.{length, get_or}
 use mathlib.Core.List.{List}
 use Rattle.std.proofs.lemmas.Result.{err_from_is_err_and}
 use Rattle.reading.specs.Answer.{keeping, base_of}
+use Rattle.expressions.specs.Codes.{number_of}
 use Rattle.expressions.specs.Items.{symbols_of, expr_in}
 use Rattle.expressions.specs.ExpressionAt.{left_of}
 use Rattle.expressions.proofs.Ways.{expr-past, expr-variable, expr-shared, expr-refused, expr-fail, expr-choice, expr-not-applied, expr-applied, expr_onward, applied-arguments, applied-behind}
@@ -22,63 +23,91 @@ read_expr-returns-then-e-p t c =
     let i = a.self.now in
     λ f h. rw c.at.ensures (expr-past i.s.now (base_of i.who) (symbols_of i) (length i.s.now) a.vars.now a.sort a.left a.p f h refl c.if-e-p.true)
 
-pub read_expr-returns-then-code-eq0 : goal.read_expr-returns-then-code-eq0
-read_expr-returns-then-code-eq0 t c =
+pub read_expr-returns-in_default : goal.read_expr-returns-in_default
+read_expr-returns-in_default t c =
     let a = c.args in
     let i = a.self.now in
-    λ f h. expr-variable i.s.now (base_of i.who) (symbols_of i) (length i.s.now) a.vars.now a.sort a.left a.p f h c.if-e-p.false (omega arith) c.read_variable.ensures
+    let above : 4 < get_or i.s.now a.p 0 = rw (sym c.byte.ensures) c.in_default.ensures in
+    λ f h. rw c.at-in_default.ensures (expr-refused i.s.now (base_of i.who) (symbols_of i) (length i.s.now) a.vars.now a.sort a.left a.p f h c.if-e-p.false refl (omega (arith, above)) (omega (arith, above)) (λ known. omega (arith, above)))
 
-pub read_expr-returns-then-code-eq4 : goal.read_expr-returns-then-code-eq4
-read_expr-returns-then-code-eq4 t c =
+pub read_expr-returns-in-Variable : goal.read_expr-returns-in-Variable
+read_expr-returns-in-Variable t c =
     let a = c.args in
     let i = a.self.now in
-    λ f h. expr-shared i.s.now (base_of i.who) (symbols_of i) (length i.s.now) a.vars.now a.sort a.left a.p f h c.if-e-p.false (omega arith) c.read_shared.ensures
+    let is : get_or i.s.now a.p 0 ≡ 0 = sym c.byte.ensures ∙ c.in-Some.ensures ∙ ap number_of c.in-Variable.is in
+    λ f h. expr-variable i.s.now (base_of i.who) (symbols_of i) (length i.s.now) a.vars.now a.sort a.left a.p f h c.if-e-p.false is c.read_variable.ensures
 
-pub read_expr-returns-then-code-gt3 : goal.read_expr-returns-then-code-gt3
-read_expr-returns-then-code-gt3 t c =
+pub read_expr-returns-in-Shared : goal.read_expr-returns-in-Shared
+read_expr-returns-in-Shared t c =
     let a = c.args in
     let i = a.self.now in
-    λ f h. rw c.at-then-code-gt3.ensures (expr-refused i.s.now (base_of i.who) (symbols_of i) (length i.s.now) a.vars.now a.sort a.left a.p f h c.if-e-p.false refl (omega arith) (omega arith) (λ known. omega arith))
+    let is : get_or i.s.now a.p 0 ≡ 4 = sym c.byte.ensures ∙ c.in-Some.ensures ∙ ap number_of c.in-Shared.is in
+    λ f h. expr-shared i.s.now (base_of i.who) (symbols_of i) (length i.s.now) a.vars.now a.sort a.left a.p f h c.if-e-p.false is c.read_shared.ensures
 
-pub read_expr-returns-then-left-eq0 : goal.read_expr-returns-then-left-eq0
-read_expr-returns-then-left-eq0 t c =
+pub read_expr-returns-in_err-take_node-in-Fail : goal.read_expr-returns-in_err-take_node-in-Fail
+read_expr-returns-in_err-take_node-in-Fail t c =
     let a = c.args in
     let i = a.self.now in
-    λ f h. rw c.at-then-left-eq0.ensures (expr-refused i.s.now (base_of i.who) (symbols_of i) (length i.s.now) a.vars.now a.sort a.left a.p f h c.if-e-p.false refl (omega arith) (omega arith) (λ known. c.if-left-eq0.true))
+    let is : get_or i.s.now a.p 0 ≡ 3 = sym c.byte.ensures ∙ c.in-Some.ensures ∙ ap number_of c.in-Fail.is in
+    let none = c.in_err-take_node-in-Fail.ensures in
+    let r = err_from_is_err_and c.from_residual-in_err-take_node-in-Fail.result c.from_residual-in_err-take_node-in-Fail.ensures.1 in
+    λ f h. rw (r.1, r.2, none.1, none.2) (expr-refused i.s.now (base_of i.who) (symbols_of i) (length i.s.now) a.vars.now a.sort a.left a.p f h c.if-e-p.false refl (omega arith) (omega arith) (λ known. none.0))
 
-pub read_expr-returns-then-code-eq3 : goal.read_expr-returns-then-code-eq3
-read_expr-returns-then-code-eq3 t c =
+pub read_expr-returns-in_ok-take_node-in-Fail : goal.read_expr-returns-in_ok-take_node-in-Fail
+read_expr-returns-in_ok-take_node-in-Fail t c =
     let a = c.args in
     let i = a.self.now in
-    λ f h. expr-fail i.s.now (base_of i.who) (symbols_of i) (length i.s.now) a.vars.now a.sort a.left a.p f h c.if-e-p.false (omega arith) (omega arith)
+    let is : get_or i.s.now a.p 0 ≡ 3 = sym c.byte.ensures ∙ c.in-Some.ensures ∙ ap number_of c.in-Fail.is in
+    λ f h. expr-fail i.s.now (base_of i.who) (symbols_of i) (length i.s.now) a.vars.now a.sort a.left a.p f h c.if-e-p.false _ c.in_ok-take_node-in-Fail.ensures is
 
-pub read_expr-returns-then-code-eq2 : goal.read_expr-returns-then-code-eq2
-read_expr-returns-then-code-eq2 t c =
+pub read_expr-returns-in_err-left-in-Choice : goal.read_expr-returns-in_err-left-in-Choice
+read_expr-returns-in_err-left-in-Choice t c =
     let a = c.args in
     let i = a.self.now in
-    λ f h. expr-choice i.s.now (base_of i.who) (symbols_of i) (length i.s.now) a.vars.now a.sort a.left a.p f h c.if-e-p.false (omega arith) (omega arith) c.read_row.ensures
+    let is : get_or i.s.now a.p 0 ≡ 2 = sym c.byte.ensures ∙ c.in-Some.ensures ∙ ap number_of c.in-Choice.is in
+    let none = c.in_err-left-in-Choice.ensures in
+    let r = err_from_is_err_and c.from_residual-in_err-left-in-Choice.result c.from_residual-in_err-left-in-Choice.ensures.1 in
+    λ f h. rw (r.1, r.2, none.1, none.2) (expr-refused i.s.now (base_of i.who) (symbols_of i) (length i.s.now) a.vars.now a.sort a.left a.p f h c.if-e-p.false refl (omega arith) (omega arith) (λ known. none.0))
 
-pub read_expr-read_row-requires-2 : goal.read_expr-read_row-requires-2
-read_expr-read_row-requires-2 t c =
+pub read_expr-returns-in_ok-left-in-Choice : goal.read_expr-returns-in_ok-left-in-Choice
+read_expr-returns-in_ok-left-in-Choice t c =
     let a = c.args in
     let i = a.self.now in
-    let behind = applied-behind i.s.now (base_of i.who) (symbols_of i) (length i.s.now) a.sort a.p c.in_ok-f.ensures in
-    (omega (arith, behind), omega arith)
+    let is : get_or i.s.now a.p 0 ≡ 2 = sym c.byte.ensures ∙ c.in-Some.ensures ∙ ap number_of c.in-Choice.is in
+    λ f h. expr-choice i.s.now (base_of i.who) (symbols_of i) (length i.s.now) a.vars.now a.sort a.left a.p f h c.if-e-p.false _ c.in_ok-left-in-Choice.ensures is c.read_row-in-Choice.ensures
 
-pub read_expr-returns-in_err-f : goal.read_expr-returns-in_err-f
-read_expr-returns-in_err-f t c =
+pub read_expr-returns-in_err-left-in-Apply : goal.read_expr-returns-in_err-left-in-Apply
+read_expr-returns-in_err-left-in-Apply t c =
     let a = c.args in
     let i = a.self.now in
+    let is : get_or i.s.now a.p 0 ≡ 1 = sym c.byte.ensures ∙ c.in-Some.ensures ∙ ap number_of c.in-Apply.is in
+    let none = c.in_err-left-in-Apply.ensures in
     let r = err_from_is_err_and c.from_residual.result c.from_residual.ensures.1 in
-    λ f h. rw (r.1, r.2) (expr-not-applied i.s.now (base_of i.who) (symbols_of i) (length i.s.now) a.vars.now a.sort a.left a.p f h c.if-e-p.false (omega arith) (omega arith) c.in_err-f.ensures)
+    λ f h. rw (r.1, r.2, none.1, none.2) (expr-refused i.s.now (base_of i.who) (symbols_of i) (length i.s.now) a.vars.now a.sort a.left a.p f h c.if-e-p.false refl (omega arith) (omega arith) (λ known. none.0))
 
-pub read_expr-returns : goal.read_expr-returns
-read_expr-returns t c =
+pub read_expr-read_row-requires : goal.read_expr-read_row-requires
+read_expr-read_row-requires t c =
     let a = c.args in
     let i = a.self.now in
-    let arguments = applied-arguments i.book.now i.at.now i.s.now (base_of i.who) (length i.s.now) a.sort a.p c.in_ok-f.ensures in
-    λ f h. expr-applied i.s.now (base_of i.who) (symbols_of i) (length i.s.now) a.vars.now a.sort a.left a.p f h c.if-e-p.false (omega arith) (omega arith)
-    c.in_ok-f.ensures (c.arguments_of.ensures.0 ∙ arguments) c.read_row-2.ensures
+    let behind = applied-behind i.s.now (base_of i.who) (symbols_of i) (length i.s.now) a.sort a.p c.in_ok-f-in-Apply.ensures in
+    (omega (arith, behind), tt)
+
+pub read_expr-returns-in_err-f-in-Apply : goal.read_expr-returns-in_err-f-in-Apply
+read_expr-returns-in_err-f-in-Apply t c =
+    let a = c.args in
+    let i = a.self.now in
+    let is : get_or i.s.now a.p 0 ≡ 1 = sym c.byte.ensures ∙ c.in-Some.ensures ∙ ap number_of c.in-Apply.is in
+    let r = err_from_is_err_and c.from_residual-in_err-f-in-Apply.result c.from_residual-in_err-f-in-Apply.ensures.1 in
+    λ f h. rw (r.1, r.2) (expr-not-applied i.s.now (base_of i.who) (symbols_of i) (length i.s.now) a.vars.now a.sort a.left a.p f h c.if-e-p.false _ c.in_ok-left-in-Apply.ensures is c.in_err-f-in-Apply.ensures)
+
+pub read_expr-returns-in_ok-f-in-Apply : goal.read_expr-returns-in_ok-f-in-Apply
+read_expr-returns-in_ok-f-in-Apply t c =
+    let a = c.args in
+    let i = a.self.now in
+    let is : get_or i.s.now a.p 0 ≡ 1 = sym c.byte.ensures ∙ c.in-Some.ensures ∙ ap number_of c.in-Apply.is in
+    let applied = c.in_ok-f-in-Apply.ensures in
+    let arguments = applied-arguments i.book.now i.at.now i.s.now (base_of i.who) (length i.s.now) a.sort a.p applied in
+    λ f h. expr-applied i.s.now (base_of i.who) (symbols_of i) (length i.s.now) a.vars.now a.sort a.left a.p f h c.if-e-p.false _ c.in_ok-left-in-Apply.ensures is applied (c.arguments_of.ensures.0 ∙ arguments) c.read_row.ensures
 
 pub read_row-loop-sort-init : goal.read_row-loop-sort-init
 read_row-loop-sort-init t c = (omega arith, λ f h. refl)
@@ -190,7 +219,7 @@ read_shared-returns-in_err-rest-2 t c =
     let i = a.self.now in
     let l = c.loop-k in
     let r = err_from_is_err_and c.from_residual-in_err-rest-2.result c.from_residual-in_err-rest-2.ensures.1 in
-    let refused = outward_more i.s.now (base_of i.who) (symbols_of i) (length i.s.now) a.vars.now a.sort a.left a.p {k = l.k - 1} l.invariant (omega arith) (omega arith) c.byte-sort.ensures c.byte-around.ensures c.in_err-rest-2.ensures in
+    let refused = outward_more i.s.now (base_of i.who) (symbols_of i) (length i.s.now) a.vars.now a.sort a.left a.p {k = l.k - 1} l.invariant (omega arith) (omega arith) c.byte-t.ensures c.byte-around.ensures c.in_err-rest-2.ensures in
     λ f h. rw (r.1, r.2) (outward_refused i.s.now (base_of i.who) (symbols_of i) (length i.s.now) a.vars.now a.sort a.left a.p refused f h)
 
 pub read_shared-loop-k-preserved : goal.read_shared-loop-k-preserved
@@ -198,7 +227,7 @@ read_shared-loop-k-preserved t c =
     let a = c.args in
     let i = a.self.now in
     let l = c.loop-k in
-    outward_more i.s.now (base_of i.who) (symbols_of i) (length i.s.now) a.vars.now a.sort a.left a.p {k = l.k - 1} l.invariant (omega arith) (omega arith) c.byte-sort.ensures c.byte-around.ensures c.in_ok-rest-2.ensures
+    outward_more i.s.now (base_of i.who) (symbols_of i) (length i.s.now) a.vars.now a.sort a.left a.p {k = l.k - 1} l.invariant (omega arith) (omega arith) c.byte-t.ensures c.byte-around.ensures c.in_ok-rest-2.ensures
 
 pub read_shared-returns : goal.read_shared-returns
 read_shared-returns t c =
