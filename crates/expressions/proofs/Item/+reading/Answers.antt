@@ -6,7 +6,7 @@ use native.Mathlib.Numerals.{add-one}
 use native.Mathlib.Omega.{arith}
 use lib.ListN.{length, get_or}
 use mathlib.Core.List.{List}
-use Rattle.std.proofs.lemmas.Result.{err_from_is_err_and}
+use Rattle.reading.proofs.Exits.{handed_on}
 use Rattle.reading.specs.Answer.{keeping, base_of}
 use Rattle.expressions.specs.Codes.{number_of}
 use Rattle.expressions.specs.Items.{symbols_of, expr_in}
@@ -50,8 +50,8 @@ read_expr-returns-in_err-take_node-in-Fail t c =
     let i = a.self.now in
     let is : get_or i.s.now a.p 0 ≡ 3 = sym c.byte.ensures ∙ c.in-Some.ensures ∙ ap number_of c.in-Fail.is in
     let none = c.in_err-take_node-in-Fail.ensures in
-    let r = err_from_is_err_and c.from_residual-in_err-take_node-in-Fail.result c.from_residual-in_err-take_node-in-Fail.ensures.1 in
-    λ f h. rw (r.1, r.2, none.1, none.2) (expr-refused i.s.now (base_of i.who) (symbols_of i) (length i.s.now) a.vars.now a.sort a.left a.p f h c.if-e-p.false refl (omega arith) (omega arith) (λ known. none.0))
+    let r = handed_on c.from_residual-in_err-take_node-in-Fail.result c.from_residual-in_err-take_node-in-Fail.ensures.1 in
+    λ f h. rw (r, none.1, none.2) (expr-refused i.s.now (base_of i.who) (symbols_of i) (length i.s.now) a.vars.now a.sort a.left a.p f h c.if-e-p.false refl (omega arith) (omega arith) (λ known. none.0))
 
 pub read_expr-returns-in_ok-take_node-in-Fail : goal.read_expr-returns-in_ok-take_node-in-Fail
 read_expr-returns-in_ok-take_node-in-Fail t c =
@@ -66,8 +66,8 @@ read_expr-returns-in_err-left-in-Choice t c =
     let i = a.self.now in
     let is : get_or i.s.now a.p 0 ≡ 2 = sym c.byte.ensures ∙ c.in-Some.ensures ∙ ap number_of c.in-Choice.is in
     let none = c.in_err-left-in-Choice.ensures in
-    let r = err_from_is_err_and c.from_residual-in_err-left-in-Choice.result c.from_residual-in_err-left-in-Choice.ensures.1 in
-    λ f h. rw (r.1, r.2, none.1, none.2) (expr-refused i.s.now (base_of i.who) (symbols_of i) (length i.s.now) a.vars.now a.sort a.left a.p f h c.if-e-p.false refl (omega arith) (omega arith) (λ known. none.0))
+    let r = handed_on c.from_residual-in_err-left-in-Choice.result c.from_residual-in_err-left-in-Choice.ensures.1 in
+    λ f h. rw (r, none.1, none.2) (expr-refused i.s.now (base_of i.who) (symbols_of i) (length i.s.now) a.vars.now a.sort a.left a.p f h c.if-e-p.false refl (omega arith) (omega arith) (λ known. none.0))
 
 pub read_expr-returns-in_ok-left-in-Choice : goal.read_expr-returns-in_ok-left-in-Choice
 read_expr-returns-in_ok-left-in-Choice t c =
@@ -82,8 +82,8 @@ read_expr-returns-in_err-left-in-Apply t c =
     let i = a.self.now in
     let is : get_or i.s.now a.p 0 ≡ 1 = sym c.byte.ensures ∙ c.in-Some.ensures ∙ ap number_of c.in-Apply.is in
     let none = c.in_err-left-in-Apply.ensures in
-    let r = err_from_is_err_and c.from_residual.result c.from_residual.ensures.1 in
-    λ f h. rw (r.1, r.2, none.1, none.2) (expr-refused i.s.now (base_of i.who) (symbols_of i) (length i.s.now) a.vars.now a.sort a.left a.p f h c.if-e-p.false refl (omega arith) (omega arith) (λ known. none.0))
+    let r = handed_on c.from_residual.result c.from_residual.ensures.1 in
+    λ f h. rw (r, none.1, none.2) (expr-refused i.s.now (base_of i.who) (symbols_of i) (length i.s.now) a.vars.now a.sort a.left a.p f h c.if-e-p.false refl (omega arith) (omega arith) (λ known. none.0))
 
 pub read_expr-read_row-requires : goal.read_expr-read_row-requires
 read_expr-read_row-requires t c =
@@ -97,8 +97,8 @@ read_expr-returns-in_err-f-in-Apply t c =
     let a = c.args in
     let i = a.self.now in
     let is : get_or i.s.now a.p 0 ≡ 1 = sym c.byte.ensures ∙ c.in-Some.ensures ∙ ap number_of c.in-Apply.is in
-    let r = err_from_is_err_and c.from_residual-in_err-f-in-Apply.result c.from_residual-in_err-f-in-Apply.ensures.1 in
-    λ f h. rw (r.1, r.2) (expr-not-applied i.s.now (base_of i.who) (symbols_of i) (length i.s.now) a.vars.now a.sort a.left a.p f h c.if-e-p.false _ c.in_ok-left-in-Apply.ensures is c.in_err-f-in-Apply.ensures)
+    let r = handed_on c.from_residual-in_err-f-in-Apply.result c.from_residual-in_err-f-in-Apply.ensures.1 in
+    λ f h. rw r (expr-not-applied i.s.now (base_of i.who) (symbols_of i) (length i.s.now) a.vars.now a.sort a.left a.p f h c.if-e-p.false _ c.in_ok-left-in-Apply.ensures is c.in_err-f-in-Apply.ensures)
 
 pub read_expr-returns-in_ok-f-in-Apply : goal.read_expr-returns-in_ok-f-in-Apply
 read_expr-returns-in_ok-f-in-Apply t c =
@@ -122,8 +122,8 @@ read_row-returns-in_err-rest t c =
     let a = c.args in
     let i = a.self.now in
     let l = c.loop-sort in
-    let r = err_from_is_err_and c.from_residual.result c.from_residual.ensures.1 in
-    λ f h. rw (r.1, r.2) (row-refused (expr_in i f a.vars.now) a.sorts.now l.sort-index l.rest l.next c.loop-sort-test.true (c.in_err-rest.ensures f (omega (arith, l.invariant.0))) ∙ sym (l.invariant.1 f h))
+    let r = handed_on c.from_residual.result c.from_residual.ensures.1 in
+    λ f h. rw r (row-refused (expr_in i f a.vars.now) a.sorts.now l.sort-index l.rest l.next c.loop-sort-test.true (c.in_err-rest.ensures f (omega (arith, l.invariant.0))) ∙ sym (l.invariant.1 f h))
 
 pub read_row-loop-sort-preserved : goal.read_row-loop-sort-preserved
 read_row-loop-sort-preserved t c =
@@ -194,10 +194,10 @@ read_shared-returns-in_err-rest t c =
     let a = c.args in
     let i = a.self.now in
     let l = c.inward in
-    let r = err_from_is_err_and c.from_residual.result c.from_residual.ensures.1 in
+    let r = handed_on c.from_residual.result c.from_residual.ensures.1 in
     let within = inward_within i.s.now (base_of i.who) (symbols_of i) (length i.s.now) a.vars.now a.sort a.left a.p l.invariant (omega arith) (omega arith) c.byte-in-inward.ensures (omega arith) (omega arith) in
     let refused = within-read i.s.now (base_of i.who) (symbols_of i) (length i.s.now) a.vars.now a.sort a.left a.p {k = within.count + 1} within (omega (arith, within.place)) (omega arith) c.byte-2.ensures c.in_err-rest.ensures in
-    λ f h. rw (r.1, r.2) (outward_refused i.s.now (base_of i.who) (symbols_of i) (length i.s.now) a.vars.now a.sort a.left a.p refused f h)
+    λ f h. rw r (outward_refused i.s.now (base_of i.who) (symbols_of i) (length i.s.now) a.vars.now a.sort a.left a.p refused f h)
 
 pub read_shared-loop-k-init : goal.read_shared-loop-k-init
 read_shared-loop-k-init t c =
@@ -218,9 +218,9 @@ read_shared-returns-in_err-rest-2 t c =
     let a = c.args in
     let i = a.self.now in
     let l = c.loop-k in
-    let r = err_from_is_err_and c.from_residual-in_err-rest-2.result c.from_residual-in_err-rest-2.ensures.1 in
+    let r = handed_on c.from_residual-in_err-rest-2.result c.from_residual-in_err-rest-2.ensures.1 in
     let refused = outward_more i.s.now (base_of i.who) (symbols_of i) (length i.s.now) a.vars.now a.sort a.left a.p {k = l.k - 1} l.invariant (omega arith) (omega arith) c.byte-t.ensures c.byte-around.ensures c.in_err-rest-2.ensures in
-    λ f h. rw (r.1, r.2) (outward_refused i.s.now (base_of i.who) (symbols_of i) (length i.s.now) a.vars.now a.sort a.left a.p refused f h)
+    λ f h. rw r (outward_refused i.s.now (base_of i.who) (symbols_of i) (length i.s.now) a.vars.now a.sort a.left a.p refused f h)
 
 pub read_shared-loop-k-preserved : goal.read_shared-loop-k-preserved
 read_shared-loop-k-preserved t c =
