@@ -1,28 +1,27 @@
 // The text of what a run gives, as the programs print it: a line for each answer, and the seven numbers of a result; and what `expand` does with its input.
 #![tactic(auto)]
 
-ghost use Rattle.std.specs.Prelude.{◌≤◌};
+ghost use Rattle.std.specs.Prelude.{◌+◌, ◌*◌, ◌≤◌};
 
 use limits::{Entry, Limits};
 use reading::{number, part_of};
 use run::{Outcome, Owned, run_owned};
 use std::io;
-use tables::show_item;
+use tables::{Fields, show_item};
 
 // The room for answers that `expand` has.
 const ANSWER_BYTES: usize = 16384;
 
 // What program `expand` does with its input: a two-byte book length, the book, a two-byte question length, the question, a four-byte fuel. Input that is cut short
-// or has bytes left over prints only `J`. One test sees both: where the input ends right behind the fuel, every byte of the two lengths lies in it.
+// or has bytes left over prints only `J`. One test sees both: behind a field that is cut short nothing is left.
 pub fn expand(rt: &impl Print, input: &[u8]) -> io::Result<()> {
-    let q = 2 + number(input, 0);
-    let f = q + 2 + number(input, q);
-    if input.len() != f + 4 {
+    let mut fields = Fields { left: input };
+    let book = fields.field();
+    let question = fields.field();
+    if fields.left.len() != 4 {
         return println!(rt; "J");
     }
-    let book = part_of(input, 2, q);
-    let question = part_of(input, q + 2, f);
-    let fuel = (number(input, f) * 65536 + number(input, f + 2)) as u32;
+    let fuel = fields.long_number();
     let mut nodes = [0u16; Limits::NODES * Limits::NODE];
     let mut bytes = [0u8; ANSWER_BYTES];
     let list = [Entry::vacant(); Owned::HELD];
@@ -52,40 +51,41 @@ pub fn show_result(rt: &impl Print, r: Outcome) -> io::Result<()> {
 
 // The records stand one behind the other, the first behind the version byte. Each that is counted begins inside the bytes.
 pub fn show_answers(rt: &impl Print, bytes: &[u8], count: usize) -> io::Result<()> {
-    let end = bytes.len();
-    let mut p: usize = 1;
-    let mut i: usize = 0;
-    while i < count {
-        if end <= p {
-            return Ok(());
+    let mut left = part_of(bytes, 1, bytes.len());
+    for _ in 0..count {
+        if left.is_empty() {
+            break;
         }
-        let size = show_answer(rt, part_of(bytes, p, end))?;
-        p = if end - p < size { end } else { p + size };
-        i += 1;
+        let size = show_answer(rt, left)?;
+        left = part_of(left, size, left.len());
     }
     Ok(())
 }
 
 // The line of the record that the bytes begin with. The answer is its length.
 fn show_answer(rt: &impl Print, record: &[u8]) -> io::Result<usize> {
-    let decisions = 4 + 2 * number(record, 2);
+    let symbols = number(record, 2);
+    let decisions = 4 + 2 * symbols;
     let end = 2 + number(record, 0);
     rt.write_all(b"A")?;
-    show_numbers(rt, record, 4, decisions)?;
+    show_numbers(rt, record, 4, symbols)?;
     rt.write_all(b" |")?;
-    show_numbers(rt, record, decisions, end)?;
+    show_numbers(
+        rt,
+        record,
+        decisions,
+        end.saturating_sub(decisions).div_ceil(2),
+    )?;
     rt.write_all(b"\n")?;
     Ok(end)
 }
 
-// The two-byte numbers from one place to another.
-fn show_numbers(rt: &impl Print, bytes: &[u8], from: usize, to: usize) -> io::Result<()>
-    requires { to ≤ 1000000 }
+// So many two-byte numbers from a place on.
+fn show_numbers(rt: &impl Print, bytes: &[u8], from: usize, count: usize) -> io::Result<()>
+    requires { from + 2 * count ≤ 1000000 }
 {
-    let mut p = from;
-    while p < to {
-        show_item(rt, number(bytes, p) as u64)?;
-        p += 2;
+    for i in 0..count {
+        show_item(rt, number(bytes, from + 2 * i))?;
     }
     Ok(())
 }

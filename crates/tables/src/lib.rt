@@ -64,6 +64,16 @@ impl<'a> Fields<'a> {
         self.bytes(2);
         n
     }
+
+    // The number in the first four bytes.
+    pub fn long_number(&mut self) -> u32
+        ensures first { result ≡ big_endian self.old.left.now 0 * 65536 + big_endian self.old.left.now 2 }
+        ensures rest { self.new.left.now ≡ drop 4 self.old.left.now }
+    {
+        let n = number(self.left, 0) * 65536 + number(self.left, 2);
+        self.bytes(4);
+        n as u32
+    }
 }
 
 // Shows the rows of a table, one behind the other. Each takes a byte at least, so there are no more rows than bytes.
