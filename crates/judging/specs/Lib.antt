@@ -1,4 +1,5 @@
 pub mod First
+pub mod Judged
 pub mod Search
 pub mod Ranks
 pub mod Sorts

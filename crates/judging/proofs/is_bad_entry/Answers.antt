@@ -1,5 +1,5 @@
 -- `is_bad_entry` meets its contract: what is left to look at is what there was at first.
-use mathlib.Core.Path.{refl, sym, ap, ◌∙◌}
+use mathlib.Core.Path.{sym, ap, ◌∙◌}
 use Prim.Native.Nat.{ℕ}
 use native.Mathlib.Omega.{arith}
 use lib.ListN.{get_or}
@@ -8,12 +8,9 @@ use Rattle.judging.specs.Words.{bad_pair}
 use Rattle.judging.proofs.Pairs.{entry-root, entry-words, word-bad, word_fine, no_word}
 use Rattle.judging.proofs.is_bad_entry.Goals as goal
 
-pub returns-then-used-wide : goal.returns-then-used-wide
-returns-then-used-wide c = let a = c.args in
-    sym (entry-root a.choices a.used a.e (omega (arith, c.wide.ensures.0, c.if-used-wide.true)))
-
-pub loop-i-init : goal.loop-i-init
-loop-i-init c = (omega arith, refl)
+pub returns-then-used-from : goal.returns-then-used-from
+returns-then-used-from c = let a = c.args in
+    sym (entry-root a.choices a.used a.e (omega (arith, c.from.ensures, c.if-used-from.true)))
 
 pub returns-then-is_bad_word : goal.returns-then-is_bad_word
 returns-then-is_bad_word c = let a = c.args in
@@ -22,8 +19,8 @@ returns-then-is_bad_word c = let a = c.args in
     let bad = ap (λ (k : ℕ). some_from (bad_pair k (get_or words l.i 0)) 0 32) (sym c.between.ensures) ∙ sym
     c.is_bad_word.ensures ∙ c.if-is_bad_word.true in
     sym (entry-words a.choices a.used a.e
-    (omega (arith, c.wide.ensures.0, c.if-used-wide.false))
-    ∙ l.invariant.1
+    (omega (arith, c.from.ensures, c.if-used-from.false))
+    ∙ l.invariant
     ∙ word-bad a.choices words l.i c.loop-i-test.true bad)
 
 pub loop-i-preserved : goal.loop-i-preserved
@@ -32,11 +29,11 @@ loop-i-preserved c = let a = c.args in
     let words = a.e.words in
     let fine = ap (λ (k : ℕ). some_from (bad_pair k (get_or words l.i 0)) 0 32) (sym c.between.ensures) ∙ sym
     c.is_bad_word.ensures ∙ c.if-is_bad_word.false in
-    (omega arith, l.invariant.1 ∙ word_fine a.choices words l.i c.loop-i-test.true fine)
+    l.invariant ∙ word_fine a.choices words l.i c.loop-i-test.true fine
 
 pub returns : goal.returns
 returns c = let a = c.args in
     let l = c.loop-i in
     sym (entry-words a.choices a.used a.e
-    (omega (arith, c.wide.ensures.0, c.if-used-wide.false)) ∙ l.invariant.1 ∙ no_word a.choices
+    (omega (arith, c.from.ensures, c.if-used-from.false)) ∙ l.invariant ∙ no_word a.choices
     a.e.words l.i c.loop-i-test.false)

@@ -11,4 +11,4 @@ returns-then-said-eq0 c = let a = c.args in sym (unfit-none a.said a.s c.if-said
 
 pub returns : goal.returns
 returns c = let a = c.args in
-    ap (λ (n : ℕ). not (eqb a.said (n + 1))) c.widened.ensures.0 ∙ sym (unfit-some a.said a.s c.if-said-eq0.false)
+    ap (λ (n : ℕ). not (eqb a.said (n + 1))) c.from.ensures ∙ sym (unfit-some a.said a.s c.if-said-eq0.false)
