@@ -1,5 +1,5 @@
 -- What an answer says tells which answer it is: no two refusals have one number and place, and no two answers mean the same.
-use Rattle.std.specs.Prelude.{◌≡◌, ℕ, ◌+◌, ◌≤◌, true, false, eqb, Result, Ok, Err}
+use Rattle.std.specs.Prelude.{◌≡◌, ℕ, ◌+◌, ◌≤◌, true, false, eqb, Result, Ok, Err, IfOk}
 use mathlib.Core.Path.{refl, sym, ap, ◌∙◌}
 use native.Mathlib.Omega.{arith}
 use Rattle.reading.specs.declared.Refusal.{Refusal}
@@ -47,15 +47,17 @@ same_refusal r r' number place =
     let (who, fault) = same_who r.who r'.who r.fault r'.fault number in
     rw (who, fault, place) refl
 
--- no two answers tell the same
-pub same_told : {A : Type 0} (told : A → ℕ × ℕ) → ((a b : A) → (told a).0 ≡ (told b).0 → (told a).1 ≡ (told b).1 → a ≡ b) → (r r' : Result A Refusal) → reading_by told r ≡ reading_by told r' → r ≡ r'
-same_told told one (Ok a) (Ok b) same =
+-- no two answers tell the same, if what is read is fixed by the two numbers that are told and by what holds of it
+pub same_told : {A : Type 0} (told : A → ℕ × ℕ) (P : A → Type 0)
+    → ((a b : A) → P a → P b → (told a).0 ≡ (told b).0 → (told a).1 ≡ (told b).1 → a ≡ b)
+    → (r r' : Result A Refusal) → IfOk r P → IfOk r' P → reading_by told r ≡ reading_by told r' → r ≡ r'
+same_told told P one (Ok a) (Ok b) p q same =
     let value : (told a).0 ≡ (told b).0 = cc in
     let next : (told a).1 ≡ (told b).1 = cc in
-    ap Ok (one a b value next)
-same_told told one (Ok a) (Err r) same = cc
-same_told told one (Err r) (Ok b) same = cc
-same_told told one (Err r) (Err r') same =
+    ap Ok (one a b p q value next)
+same_told told P one (Ok a) (Err r) p q same = cc
+same_told told P one (Err r) (Ok b) p q same = cc
+same_told told P one (Err r) (Err r') p q same =
     let number : refusal_number r ≡ refusal_number r' = cc in
     let place : r.place ≡ r'.place = cc in
     ap Err (same_refusal r r' number place)
