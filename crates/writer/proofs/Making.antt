@@ -25,8 +25,11 @@ use Rattle.book.specs.Admission.{read_book}
 use Rattle.book.specs.RowsRead.{rows_read}
 use Rattle.writer.specs.Rows.{Rows, Row, rows_from, rows_in, row_count}
 use Rattle.writer.specs.Layout.{byte_of, arities_of, Next, code, Due, due, behind, number_bytes, numbers_bytes, tree_row_bytes, item_bytes, items_bytes, part_bytes, front_bytes, tree_part_bytes}
-use Rattle.writer.specs.Write.{made, refused, judged, made_of, refusing, laid, write}
-use Rattle.writer.specs.InCode.{made_by, writing_by, refusal_at}
+use Rattle.writer.specs.Write.{made, judged, made_of, laid, write}
+use Rattle.std.specs.Prelude.{Result, Ok, Err, IfOk}
+use Rattle.writer.specs.InCode.{writing_by, after}
+use Rattle.writer.specs.declared.Refusal.{Refusal}
+use Rattle.writer.specs.declared.Refusal.TheVariants.{NotABook, NoRoom}
 use Rattle.writer.specs.declared.made.Made.{Made}
 use Rattle.writer.proofs.Splitting.{row}
 
@@ -135,19 +138,19 @@ module _ (bytes : List ℕ) (front : ℕ) (trees : List ℕ) (fits : front ≤ l
 -- ---- judging
 
 -- what the code has to give for these bytes
-abbrev pub Judged : ℕ → List ℕ → Made → Type 0
-Judged count bs r = (writing_by r ≡ judged count bs) × (r.size ≤ most_book_bytes)
+abbrev pub Judged : ℕ → List ℕ → Result Made Refusal → Type 0
+Judged count bs r = (writing_by r ≡ judged count bs) × IfOk r (λ m. m.size ≤ length m.bytes)
 
 module _ (count : ℕ) (bs : List ℕ) where
-  pub too_large_lem : {r : Made} → most_book_bytes < length bs → r ≡ refusal_at count → Judged count bs r
+  pub too_large_lem : most_book_bytes < length bs → Judged count bs (Err (NotABook count))
   unfolding judged
-  too_large_lem large e = rw (e, judged, lt-ltb most_book_bytes (length bs) large) (refl, omega arith)
+  too_large_lem large = rw (judged, lt-ltb most_book_bytes (length bs) large) (refl, tt)
 
   module _ (fits : length bs ≤ most_book_bytes) where
-    pub at_fault : {r : Made} {c p row : ℕ} → refusal c p ≡ keeping (λ (x : Rules). length x.symbols) (read_book bs) → row ≡ rows_read bs → r ≡ refusal_at row
-        → Judged count bs r
+    pub at_fault : {c p row : ℕ} → refusal c p ≡ keeping (λ (x : Rules). length x.symbols) (read_book bs) → row ≡ rows_read bs
+        → Judged count bs (Err (NotABook row))
     unfolding judged
-    at_fault told rows e = rw (e, judged, le-ltb most_book_bytes (length bs) fits, kept-refusal _ (read_book bs) told, rows) (refl, omega arith)
+    at_fault told rows = rw (judged, le-ltb most_book_bytes (length bs) fits, kept-refusal _ (read_book bs) told, rows) (refl, tt)
 
     pub admitted : {n p : ℕ} → got n p ≡ keeping (λ (x : Rules). length x.symbols) (read_book bs) → made bs ≡ judged count bs
     unfolding judged
@@ -164,58 +167,49 @@ arities-read bs places {count = count} {symbols = symbols} means many e =
     ∙ take_at (arities_of symbols) _ count (length-map symbols (λ (x : Symbol). length x.arguments) ∙ sym many)
 
 -- what the code has to give for these rows
-abbrev pub MadeOf : Rows → Made → Type 0
-MadeOf rows r = (writing_by r ≡ made_of rows) × (r.size ≤ most_book_bytes)
+abbrev pub MadeOf : Rows → Result Made Refusal → Type 0
+MadeOf rows r = (writing_by r ≡ made_of rows) × IfOk r (λ m. m.size ≤ length m.bytes)
 
 module _ (rows : Rows) {n m : ℕ} (symbols-counted : n ≡ length (rows_in rows.symbols)) (trees-counted : m ≡ length (rows_in rows.trees)) where
   counted : n + m ≡ row_count rows
   unfolding row_count
   counted = rw (symbols-counted, trees-counted)
 
-  pub front_large : {r : Made} → most_book_bytes < 3 + length rows.symbols → r ≡ refusal_at (n + m) → MadeOf rows r
+  pub front_large : most_book_bytes < 3 + length rows.symbols → MadeOf rows (Err (NotABook (n + m)))
   unfolding made_of
-  front_large large e = rw (e, made_of, lt-ltb most_book_bytes (length (front_bytes rows.symbols)) (omega (arith, front_long rows.symbols)), counted) (refl, omega arith)
+  front_large large = rw (made_of, lt-ltb most_book_bytes (length (front_bytes rows.symbols)) (omega (arith, front_long rows.symbols)), counted) (refl, tt)
 
   module _ (fits : 3 + length rows.symbols ≤ most_book_bytes) where
     small : ltb most_book_bytes (length (front_bytes rows.symbols)) ≡ false
     small = le-ltb most_book_bytes (length (front_bytes rows.symbols)) (omega (arith, front_long rows.symbols))
 
-    pub front-refused : {r : Made} {c p row : ℕ} → refusal c p ≡ keeping length (symbol_part (front_bytes rows.symbols)) → row ≡ rows_read (front_bytes rows.symbols)
-        → r ≡ refusal_at row → MadeOf rows r
+    pub front-refused : {c p row : ℕ} → refusal c p ≡ keeping length (symbol_part (front_bytes rows.symbols)) → row ≡ rows_read (front_bytes rows.symbols)
+        → MadeOf rows (Err (NotABook row))
     unfolding made_of rows_read
-    front-refused told read e =
+    front-refused told read =
         let is = kept-refusal length (symbol_part (front_bytes rows.symbols)) told in
-        rw (e, made_of, small, is, read, rows_read, is) (refl, omega arith)
+        rw (made_of, small, is, read, rows_read, is) (refl, tt)
 
-    pub front-judged : (r : Made) {p : ℕ} {symbols : Symbols} → symbol_part (front_bytes rows.symbols) ≡ got symbols p
+    pub front-judged : (r : Result Made Refusal) {p : ℕ} {symbols : Symbols} → symbol_part (front_bytes rows.symbols) ≡ got symbols p
         → Judged (n + m) (front_bytes rows.symbols ++ tree_part_bytes (arities_of symbols) rows.trees) r → MadeOf rows r
     unfolding made_of
     front-judged r read is = (is.0 ∙ sym (rw (made_of, small, read, counted)), is.1)
 
 -- ---- into the room
 
--- a number that is not 0 is a refusal's
-refused-by : (number row : ℕ) (bytes : List ℕ) → (number ≡ 0 → ⊥) → made_by number row bytes ≡ refused number row
-refused-by zero row bytes some = absurd (some refl)
-refused-by (suc c) row bytes some = refl
-
-module _ (rows : Rows) (room : List ℕ) (r : Made) (told : writing_by r ≡ made_of rows) where
-  pub refusal-laid : (r.number ≡ 0 → ⊥) → refusing r.number r.row room ≡ write rows room
+module _ (rows : Rows) (room : List ℕ) where
+  pub refusal-laid : (r : Refusal) → writing_by (Err r) ≡ made_of rows → after (Err r) room ≡ write rows room
   unfolding write laid
-  refusal-laid some = rw (write, ← told, refused-by r.number r.row (take r.size r.bytes) some)
+  refusal-laid r told = rw (write, ← told)
 
-  module _ (none : r.number ≡ 0) (long : r.size ≤ length r.bytes) where
-    book-made : made_of rows ≡ made (take r.size r.bytes)
-    book-made = sym told ∙ rw none
+  module _ (m : Made) (told : writing_by (Ok m) ≡ made_of rows) (long : m.size ≤ length m.bytes) where
+    book-long : length (take m.size m.bytes) ≡ m.size
+    book-long = length-take-le m.size m.bytes long
 
-    book-long : length (take r.size r.bytes) ≡ r.size
-    book-long = length-take-le r.size r.bytes long
-
-    pub no_room : length room < r.size → refusing 51 0 room ≡ write rows room
+    pub no_room : length room < m.size → after (Err NoRoom) room ≡ write rows room
     unfolding write laid
-    no_room less = rw (write, book-made, laid, book-long, lt-ltb (length room) r.size less)
+    no_room less = rw (write, ← told, laid, book-long, lt-ltb (length room) m.size less)
 
-    pub book-laid : (is : List ℕ) → r.size ≤ length room → is ≡ take r.size r.bytes ++ drop (length (take r.size r.bytes)) room
-        → record { result = record { number = 0; row = 0; bytes = r.size }; room = is } ≡ write rows room
+    pub book-laid : (is : List ℕ) → m.size ≤ length room → is ≡ take m.size m.bytes ++ drop m.size room → after (Ok m.size) is ≡ write rows room
     unfolding write laid
-    book-laid is fits e = rw (write, book-made, laid, book-long, le-ltb (length room) r.size fits, book-long, e, book-long)
+    book-laid is fits e = rw (write, ← told, laid, book-long, le-ltb (length room) m.size fits, book-long, e)

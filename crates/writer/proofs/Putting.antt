@@ -1,12 +1,12 @@
 -- Bytes put into a book: a byte, two bytes, and bytes behind others or in front of them.
 use mathlib.Core.List.{List, [], ◌∷◌, ◌++◌}
 use mathlib.Core.Path.{◌≡◌, refl, sym, ap, ◌∙◌}
-use Prim.Native.Nat.{ℕ, suc, ◌+◌, ◌/◌, ◌%◌, ◌<◌}
+use Prim.Native.Nat.{ℕ, suc, ◌+◌, ◌/◌, ◌%◌, ◌<◌, ◌≤◌}
 use native.Mathlib.Nat.{add-zero}
 use native.Mathlib.Numerals.{add-one}
 use native.Mathlib.Omega.{arith}
 use lib.ListN.{length, set, length-append}
-use lib.Seq.{sets, set_comm}
+use lib.Seq.{sets, set_comm, set_out}
 use Rattle.reading.specs.Bytes.{two_bytes}
 
 -- bytes behind others
@@ -45,6 +45,13 @@ unfolding two_bytes
 two-put l p n small =
     let high : n / 256 % 256 ≡ n / 256 = omega arith in
     rw (add-one, high)
+
+-- past the end nothing is there to change
+pub two_out : (l : List ℕ) (p n : ℕ) → length l ≤ p → sets l p (two_bytes n) ≡ l
+unfolding two_bytes
+two_out l p n out =
+    let one = set_out l p (n / 256) out in
+    rw one (set_out l (suc p) (n % 256) (omega arith))
 
 -- bytes that are left to be put, of which some are put now and the others then are left
 module _ (left a b : List ℕ) (split : left ≡ a ++ b) where

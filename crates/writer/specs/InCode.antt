@@ -1,9 +1,10 @@
 -- What the writer's code holds and answers, in the words of the definitions.
-use Rattle.std.specs.Prelude.{List, ℕ, zero, suc, take, replicate}
-use Rattle.limits.specs.Sizes.{most_book_bytes}
+use Rattle.std.specs.Prelude.{List, ℕ, take, Result, Ok, Err}
 use Rattle.writer.specs.Layout as Layout
+use Rattle.writer.specs.Write as Write
 use Rattle.writer.specs.Write.{Writing, made, refused, Outcome}
-use Rattle.writer.specs.declared.Written.{Written}
+use Rattle.writer.specs.declared.Refusal.{Refusal}
+use Rattle.writer.specs.declared.Refusal.TheVariants.{NotABook, NoRoom}
 use Rattle.writer.specs.declared.made.Made.{Made}
 use Rattle.writer.specs.declared.trees.Due.{Due}
 use Rattle.writer.specs.declared.trees.Next.{Next}
@@ -18,17 +19,26 @@ next_by Symbol = Layout.symbol
 abbrev pub due_by : Due → Layout.Due
 due_by d = record { next = next_by d.next; expressions = d.expressions }
 
+-- the numbers of the refusals
+abbrev pub number_of : Refusal → ℕ
+number_of (NotABook row) = 50
+number_of NoRoom = 51
+
+-- and the row at fault
+abbrev pub row_of : Refusal → ℕ
+row_of (NotABook row) = row
+row_of NoRoom = 0
+
 -- a book that was made, or its refusal
-abbrev pub made_by : ℕ → ℕ → List ℕ → Writing
-made_by zero row bytes = made bytes
-made_by (suc c) row bytes = refused (suc c) row
+abbrev pub writing_by : Result Made Refusal → Writing
+writing_by (Ok m) = made (take m.size m.bytes)
+writing_by (Err r) = refused (number_of r) (row_of r)
 
-abbrev pub writing_by : Made → Writing
-writing_by r = made_by r.number r.row (take r.size r.bytes)
+-- what is handed back: 0, no row and how many bytes were written, or the refusal's number, its row and no bytes
+abbrev pub result_of : Result ℕ Refusal → Write.Result
+result_of (Ok bytes) = record { number = 0; row = 0; bytes = bytes }
+result_of (Err r) = record { number = number_of r; row = row_of r; bytes = 0 }
 
-abbrev pub refusal_at : ℕ → Made
-refusal_at row = record { number = 50; row = row; size = 0; bytes = replicate most_book_bytes 0 }
-
--- what is handed back, and the room lent after it
-abbrev pub after : Written → List ℕ → Outcome
-after r room = record { result = record { number = r.number; row = r.row; bytes = r.bytes }; room = room }
+-- with the room lent after it
+abbrev pub after : Result ℕ Refusal → List ℕ → Outcome
+after r room = record { result = result_of r; room = room }

@@ -2,62 +2,57 @@
 // any book is, so that what is refused leaves the room lent as it was.
 #![tactic(auto)]
 
-ghost use Rattle.std.specs.Prelude.{◌++◌, ◌≡◌, ◌≤◌, length, drop};
+ghost use Rattle.std.specs.Prelude.{◌≡◌};
 ghost use Rattle.writer.specs.Write.{write};
-ghost use Rattle.writer.specs.InCode.{after};
+ghost use Rattle.writer.specs.InCode.{after, number_of, row_of};
 
 mod made;
+pub mod put;
 mod rows;
 mod trees;
 
 use made::made_of;
 
-// What the writer hands back: 0 or the number of its refusal, the row at fault, and how many bytes it wrote.
-#[derive(Clone, Copy)]
-pub struct Written {
-    pub number: u8,
-    pub row: usize,
-    pub bytes: usize,
+// Why no book was written.
+#[derive(Clone, Copy, Debug, PartialEq, Eq)]
+pub enum Refusal {
+    // The rows are no book's, and this is the first at fault: the count of rows if some are missing or the book is too large.
+    NotABook { row: usize },
+    // The room lent is shorter than the book.
+    NoRoom,
 }
 
-// Copies the bytes of a book that was made into the room lent.
-fn copy(from: &[u8], room: &mut [u8])
-    requires { length from.now ≤ length room.old }
-    ensures { room.new ≡ from.now ++ drop (length from.now) room.old }
-{
-    let mut i: usize = 0;
-    while i < from.len() {
-        room[i] = from[i];
-        i += 1;
+impl Refusal {
+    // Its number, as request L1 has it.
+    pub fn number(self) -> u8
+        ensures { result ≡ number_of self }
+    {
+        match self {
+            Refusal::NotABook { row: _ } => 50,
+            Refusal::NoRoom => 51,
+        }
+    }
+
+    // The row at fault, 0 where none is.
+    pub fn row(self) -> usize
+        ensures { result ≡ row_of self }
+    {
+        match self {
+            Refusal::NotABook { row } => row,
+            Refusal::NoRoom => 0,
+        }
     }
 }
 
-// Writes the book whose symbols and trees have these rows into the room lent, from its first byte on.
-pub fn write_book(symbols: &[u16], trees: &[u16], room: &mut [u8]) -> Written
+// Writes the book whose symbols and trees have these rows into the room lent, from its first byte on: how many bytes it has.
+pub fn write_book(symbols: &[u16], trees: &[u16], room: &mut [u8]) -> Result<usize, Refusal>
     ensures { after result room.new ≡ write (record { symbols = symbols.entry.now; trees = trees.now }) room.old }
 {
-    let made = made_of(symbols, trees);
-    let number = made.number;
-    if number != 0 {
-        return Written {
-            number,
-            row: made.row,
-            bytes: 0,
-        };
-    }
+    let made = made_of(symbols, trees)?;
     let size = made.size;
     if room.len() < size {
-        return Written {
-            number: 51,
-            row: 0,
-            bytes: 0,
-        };
+        return Err(Refusal::NoRoom);
     }
-    let bytes = made.bytes;
-    copy(&bytes[0..size], room);
-    Written {
-        number: 0,
-        row: 0,
-        bytes: size,
-    }
+    room[..size].copy_from_slice(&made.bytes[..size]);
+    Ok(size)
 }

@@ -20,10 +20,5 @@ pub(crate) fn behind_row(rows: &[u16], p: usize) -> usize
     requires { p < length rows.now }
     ensures { (result ≡ min (length rows.now) (p + 1 + get_or rows.now p 0)) × (p < result) × (result ≤ length rows.now) }
 {
-    let n = rows[p] as usize;
-    if rows.len() - p - 1 < n {
-        rows.len()
-    } else {
-        p + 1 + n
-    }
+    rows.len().min(p + 1 + rows[p] as usize)
 }

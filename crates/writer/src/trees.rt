@@ -1,22 +1,21 @@
 // The tree part of a book from its rows. A row is read along, to know which of its numbers are symbols: these take two bytes, as does the tree's length, which
 // stands for the number that opens the row; all others take one.
-ghost use Rattle.std.specs.Prelude.{◌≡◌, ◌+◌, ◌*◌, ◌<◌, ◌≤◌, length, get_or, set};
+ghost use Rattle.std.specs.Prelude.{◌≡◌, ◌+◌, ◌*◌, ◌<◌, ◌≤◌, length, get_or};
 ghost use Rattle.std.proofs.lemmas.List.Edits.{sets};
 ghost use Rattle.limits.specs.Sizes.{most_book_bytes};
-ghost use Rattle.reading.specs.Bytes.{two_bytes};
 ghost use Rattle.writer.specs.Rows.{rows_in};
 ghost use Rattle.writer.specs.Layout.{byte_of, behind_tree, behind_expr, number_bytes, tree_row_bytes, item_bytes, items_bytes, tree_part_bytes};
 ghost use Rattle.writer.specs.Layout.{behind as behindIn};
 ghost use Rattle.writer.specs.InCode.{next_by, due_by};
 
+use super::put::{put_byte, put_two};
 use super::rows::behind_row;
-use limits::Limits;
 
 // The length of a row with numbers missing: it runs past every book.
 const PAST_EVERY_BOOK: usize = 65535;
 
 // What the next number of a tree's row is.
-#[derive(Clone, Copy)]
+#[derive(Clone, Copy, Debug, PartialEq, Eq)]
 pub enum Next {
     Code,
     Variable,
@@ -24,91 +23,64 @@ pub enum Next {
 }
 
 // That, and how many expressions are still to come behind it; where none is, the next code is a tree's.
-#[derive(Clone, Copy)]
+#[derive(Clone, Copy, Debug, PartialEq, Eq)]
 pub struct Due {
     pub next: Next,
     pub expressions: usize,
 }
 
 // A number as a byte; one that no byte holds becomes 255, which no book has where one byte stands for a row's number.
+#[tactic(auto, unfolding(crate::specs::Layout::byte_of))]
 pub(crate) fn byte_of(n: u16) -> u8
     ensures { result ≡ byte_of n }
 {
-    if 255 < n { 255 } else { n as u8 }
-}
-
-// As `put_byte`, in bytes of any length.
-fn store(book: &mut [u8], p: usize, b: u8)
-    ensures { book.new ≡ set book.old p b }
-{
-    if p < book.len() {
-        book[p] = b;
-    }
-}
-
-// Stores a byte where there is room for it; a place past the last changes nothing.
-pub(crate) fn put_byte(book: &mut [u8; Limits::BOOK], p: usize, b: u8)
-    ensures { book.new ≡ set book.old p b }
-{
-    store(book, p, b);
-}
-
-pub(crate) fn put_two(book: &mut [u8; Limits::BOOK], p: usize, n: usize)
-    requires { p < 4294967296 }
-    ensures { n < 65536 → book.new ≡ sets book.old p (two_bytes n) }
-{
-    put_byte(book, p, (n / 256 % 256) as u8);
-    put_byte(book, p + 1, (n % 256) as u8);
+    n.min(255) as u8
 }
 
 // What is due behind a tree's code.
+#[tactic(auto, unfolding(crate::specs::Layout::behind_tree))]
 fn behind_tree(n: u16) -> Due
     ensures { due_by result ≡ behind_tree n }
 {
-    if n == 1 {
-        return Due {
+    match n {
+        1 => Due {
             next: Next::Code,
             expressions: 1,
-        };
-    }
-    if n == 2 {
-        return Due {
+        },
+        2 => Due {
             next: Next::Variable,
             expressions: 0,
-        };
-    }
-    Due {
-        next: Next::Code,
-        expressions: 0,
+        },
+        _ => Due {
+            next: Next::Code,
+            expressions: 0,
+        },
     }
 }
 
 // What is due behind an expression's code, with others to come.
+#[tactic(auto, unfolding(crate::specs::Layout::behind_expr))]
 fn behind_expr(others: usize, n: u16) -> Due
     requires { others < 4294967296 }
     ensures { due_by result ≡ behind_expr others n }
 {
-    if n == 0 {
-        return Due {
+    match n {
+        0 => Due {
             next: Next::Variable,
             expressions: others,
-        };
-    }
-    if n == 1 {
-        return Due {
+        },
+        1 => Due {
             next: Next::Symbol,
             expressions: others,
-        };
-    }
-    if n == 2 {
-        return Due {
+        },
+        2 => Due {
             next: Next::Code,
             expressions: 2 + others,
-        };
-    }
-    Due {
-        next: Next::Code,
-        expressions: others,
+        },
+        _ => Due {
+            next: Next::Code,
+            expressions: others,
+        },
     }
 }
 
@@ -116,12 +88,7 @@ fn behind_expr(others: usize, n: u16) -> Due
 fn arity(arities: &[u8], f: u16) -> usize
     ensures { (result ≡ get_or arities.now f 0) × (result < 256) }
 {
-    let k = f as usize;
-    if k < arities.len() {
-        arities[k] as usize
-    } else {
-        0
-    }
+    arities.get(f as usize).copied().unwrap_or(0) as usize
 }
 
 // What is due behind a number of a row.
@@ -130,8 +97,7 @@ fn behind(arities: &[u8], d: Due, n: u16) -> Due
     ensures { (due_by result ≡ behindIn arities.now (due_by d) n) × (result.expressions ≤ d.expressions + 255) }
 {
     let expressions = d.expressions;
-    let next = d.next;
-    match next {
+    match d.next {
         Next::Code => {
             if expressions == 0 {
                 behind_tree(n)
@@ -151,7 +117,7 @@ fn behind(arities: &[u8], d: Due, n: u16) -> Due
 }
 
 // Puts a number at p: the place behind it.
-fn put_number(book: &mut [u8; Limits::BOOK], p: usize, next: Next, n: u16) -> usize
+fn put_number(book: &mut [u8], p: usize, next: Next, n: u16) -> usize
     requires { p < 4294967296 }
     ensures { (result ≡ p + length (number_bytes (next_by next) n)) × (result ≤ p + 2) × (book.new ≡ sets book.old p (number_bytes (next_by next) n)) }
 {
@@ -168,7 +134,7 @@ fn put_number(book: &mut [u8; Limits::BOOK], p: usize, next: Next, n: u16) -> us
 }
 
 // Puts the numbers of a row from p on: the place behind them.
-fn put_numbers(arities: &[u8], row: &[u16], book: &mut [u8; Limits::BOOK], p: usize) -> usize
+fn put_numbers(arities: &[u8], row: &[u16], book: &mut [u8], p: usize) -> usize
     requires { (p < 32 * most_book_bytes) × (length row.now ≤ most_book_bytes) }
     ensures { (result ≡ p + length (tree_row_bytes arities.now row.now)) × (result ≤ p + 2 * length row.now) × (book.new ≡ sets book.old p (tree_row_bytes arities.now row.now)) }
 {
@@ -177,20 +143,16 @@ fn put_numbers(arities: &[u8], row: &[u16], book: &mut [u8; Limits::BOOK], p: us
         expressions: 0,
     };
     let mut q = p;
-    let mut i: usize = 0;
-    while i < row.len() {
-        let n = row[i];
-        let next = d.next;
-        q = put_number(book, q, next, n);
-        d = behind(arities, d, n);
-        i += 1;
+    for n in row {
+        q = put_number(book, q, d.next, *n);
+        d = behind(arities, d, *n);
     }
     q
 }
 
 // Puts a tree with its two-byte length at p: the place behind it. Its row says that it has n numbers; where some are missing the length runs past every
 // book.
-fn put_item(arities: &[u8], n: usize, row: &[u16], book: &mut [u8; Limits::BOOK], p: usize) -> usize
+fn put_item(arities: &[u8], n: usize, row: &[u16], book: &mut [u8], p: usize) -> usize
     requires { (p < 16 * most_book_bytes) × (length row.now ≤ most_book_bytes) }
     ensures { (result ≡ p + length (item_bytes arities.now (record { says = n; numbers = row.now }))) × (result ≤ p + 2 + 2 * length row.now) × (result ≤ most_book_bytes → book.new ≡ sets book.old p (item_bytes arities.now (record { says = n; numbers = row.now }))) }
 {
@@ -205,7 +167,7 @@ fn put_item(arities: &[u8], n: usize, row: &[u16], book: &mut [u8; Limits::BOOK]
 }
 
 // Puts the trees of all rows from p on: the place behind them.
-fn put_items(arities: &[u8], rows: &[u16], book: &mut [u8; Limits::BOOK], p: usize) -> usize
+fn put_items(arities: &[u8], rows: &[u16], book: &mut [u8], p: usize) -> usize
     requires { (p ≤ 2 + most_book_bytes) × (length rows.now ≤ most_book_bytes) }
     ensures { (result ≡ p + length (items_bytes arities.now (rows_in rows.now))) × (result ≤ most_book_bytes → book.new ≡ sets book.old p (items_bytes arities.now (rows_in rows.now))) }
 {
@@ -220,12 +182,7 @@ fn put_items(arities: &[u8], rows: &[u16], book: &mut [u8; Limits::BOOK], p: usi
 }
 
 // Puts the tree part with its length at p: the place behind it.
-pub(crate) fn put_trees(
-    arities: &[u8],
-    rows: &[u16],
-    book: &mut [u8; Limits::BOOK],
-    p: usize,
-) -> usize
+pub(crate) fn put_trees(arities: &[u8], rows: &[u16], book: &mut [u8], p: usize) -> usize
     requires { (p ≤ most_book_bytes) × (length rows.now ≤ most_book_bytes) }
     ensures { (result ≡ p + length (tree_part_bytes arities.now rows.now)) × (result ≤ most_book_bytes → book.new ≡ sets book.old p (tree_part_bytes arities.now rows.now)) }
 {

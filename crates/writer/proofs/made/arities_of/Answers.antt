@@ -16,7 +16,7 @@ loop-f-preserved c =
     let arities = arities_of (symbols_in a.book.now a.at.now) in
     let many = arities-many a.book.now a.at.now in
     let arity = c.arity_of.ensures.0 ∙ sym (arity_there a.book.now a.at.now turn.f (omega arith)) in
-    (omega arith, rw zero-add at (put-more (replicate most_symbols 0) arities turn.arities 0 turn.f turn.invariant.1 _ 0 (omega arith) arity))
+    rw zero-add at (put-more (replicate most_symbols 0) arities turn.arities 0 turn.f turn.invariant _ 0 (omega arith) arity)
 
 pub returns : goal.returns
 returns c =
@@ -24,4 +24,4 @@ returns c =
     let turn = c.loop-f in
     let arities = arities_of (symbols_in a.book.now a.at.now) in
     let many = arities-many a.book.now a.at.now in
-    arities_in_array arities _ (omega arith) (put_all (replicate most_symbols 0) arities turn.arities 0 turn.f turn.invariant.1 (omega arith))
+    arities_in_array arities _ (omega arith) (put_all (replicate most_symbols 0) arities turn.arities 0 turn.f turn.invariant (omega arith))

@@ -13,10 +13,10 @@ loop-i-preserved c =
     let turn = c.loop-i in
     let many = length-map a.rows.now byte_of in
     let byte = c.byte_of.ensures ∙ sym (get_or-map byte_of a.rows.now turn.i 0) in
-    (omega arith, c.put_byte.ensures ∙ put-more a.book.now (map byte_of a.rows.now) turn.book a.p turn.i turn.invariant.1 _ _ (omega arith) byte)
+    c.put_byte.ensures ∙ put-more a.book.now (map byte_of a.rows.now) turn.book a.p turn.i turn.invariant _ _ (omega arith) byte
 
 pub returns : goal.returns
 returns c =
     let a = c.args in
     let turn = c.loop-i in
-    put_all a.book.now (map byte_of a.rows.now) turn.book a.p turn.i turn.invariant.1 (omega (arith, length-map a.rows.now byte_of))
+    put_all a.book.now (map byte_of a.rows.now) turn.book a.p turn.i turn.invariant (omega (arith, length-map a.rows.now byte_of))

@@ -10,30 +10,30 @@ use Rattle.writer.proofs.Putting.{left-length, left-put}
 use Rattle.writer.proofs.Leftover.{numbers-one, numbers-none}
 use Rattle.writer.proofs.trees.put_numbers.Goals as goal
 
-pub loop-i-init : goal.loop-i-init
+pub loop-n-init : goal.loop-n-init
 unfolding tree_row_bytes
-loop-i-init c = (omega arith, omega arith, omega arith, refl, refl)
+loop-n-init c = (omega arith, omega arith, refl, refl)
 
-pub loop-i-preserved : goal.loop-i-preserved
-loop-i-preserved c =
+pub loop-n-preserved : goal.loop-n-preserved
+loop-n-preserved c =
     let a = c.args in
-    let l = c.loop-i in
-    let n = get_or a.row.now l.i 0 in
+    let l = c.loop-n in
+    let i = l.n-index in
+    let n = get_or a.row.now i 0 in
     let now = number_bytes (next_by l.d.next) n in
-    let then = numbers_bytes a.arities.now (due_by c.behind-d.result) (drop (l.i + 1) a.row.now) in
-    let split : numbers_bytes a.arities.now (due_by l.d) (drop l.i a.row.now) ≡ now ++ then =
-    numbers-one a.arities.now (due_by l.d) a.row.now l.i (omega arith) ∙ rw c.behind-d.ensures.0 in
+    let then = numbers_bytes a.arities.now (due_by c.behind-d.result) (drop (i + 1) a.row.now) in
+    let split : numbers_bytes a.arities.now (due_by l.d) (drop i a.row.now) ≡ now ++ then =
+    numbers-one a.arities.now (due_by l.d) a.row.now i (omega arith) ∙ rw c.behind-d.ensures.0 in
     let put = c.put_number-q.ensures in (
-      omega arith,
       omega (arith, c.behind-d.ensures.1),
       omega (arith, put.1),
       omega (arith, put.0, left-length _ now then split),
-      left-put _ now then split l.book l.q _ _ put.2 put.0 ∙ l.invariant.4,
+      left-put _ now then split l.book l.q _ _ put.2 put.0 ∙ l.invariant.3,
     )
 
 pub returns : goal.returns
 returns c =
     let a = c.args in
-    let l = c.loop-i in
-    let none = numbers-none a.arities.now (due_by l.d) a.row.now l.i c.loop-i-test.false in
-    (omega (arith, ap length none), omega arith, rw none at l.invariant.4)
+    let l = c.loop-n in
+    let none = numbers-none a.arities.now (due_by l.d) a.row.now l.n-index (omega arith) in
+    (omega (arith, ap length none), omega arith, rw none at l.invariant.3)

@@ -1,7 +1,7 @@
--- `store` meets its contract: past the end nothing is there to change.
+-- `put_byte` meets its contract: past the end nothing is there to change.
 use mathlib.Core.Path.{sym}
 use lib.Seq.{set_out}
-use Rattle.writer.proofs.trees.store.Goals as goal
+use Rattle.writer.proofs.put.put_byte.Goals as goal
 
 pub returns-else-p-book : goal.returns-else-p-book
 returns-else-p-book c =
