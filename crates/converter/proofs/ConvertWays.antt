@@ -56,7 +56,7 @@ module _ (cs room : List ℕ) {size : ℕ} (long : size ≡ length cs) where
     unfolding laid
     no_room less = rw (laid, le-ltb most_book_bytes (length cs) (omega arith), lt-ltb (length room) (length cs) (omega arith))
 
-    pub book-laid : size ≤ length room → {made is : List ℕ} → made ≡ cs → is ≡ made ++ drop (length made) room
+    pub book-laid : size ≤ length room → {made is : List ℕ} → made ≡ cs → is ≡ made ++ drop size room
         → ◌≡◌ {A = Outcome} (record { number = 0; place = 0; bytes = size; room = is }) (laid cs room)
     unfolding laid
     book-laid enough same copied = rw (laid, le-ltb most_book_bytes (length cs) (omega arith), le-ltb (length room) (length cs) (omega arith), copied, same, long)

@@ -1,10 +1,12 @@
 -- What the converter's code puts and hands back, in the words of the definitions.
-use Rattle.std.specs.Prelude.{List, ◌≡◌, ℕ, ◌+◌, ◌≤◌, length, take}
+use Rattle.std.specs.Prelude.{List, ◌≡◌, ℕ, ◌+◌, ◌≤◌, length, take, Result, Ok, Err}
 use Rattle.std.proofs.lemmas.List.Edits.{sets}
 use Rattle.limits.specs.Sizes.{most_book_bytes}
-use Rattle.converter.specs.Convert.{Outcome}
+use Rattle.reading.specs.Answer.{refusal_number}
+use Rattle.converter.specs.Convert.{Outcome, refusing}
 use Rattle.converter.specs.Scan.{spot_bytes, spot_behind}
-use Rattle.converter.specs.declared.Conversion.{Conversion}
+use Rattle.converter.specs.declared.Refusal.{Refusal}
+use Rattle.converter.specs.declared.Refusal.TheVariants.{Unread, NoRoom}
 use Rattle.converter.specs.declared.made.Places.{Places}
 use Rattle.converter.specs.declared.made.Made.{Made}
 
@@ -29,10 +31,17 @@ pub record MadeOf (cs : List ℕ) (made : Made) : Type 0 where
   pub size : made.size ≡ length cs
   pub bytes : made.size ≤ most_book_bytes → take made.size made.bytes ≡ cs
 
--- a refusal: no byte is written
-abbrev pub refusal_of : ℕ → ℕ → Conversion
-refusal_of c p = record { number = c; place = p; bytes = 0 }
+-- the numbers of the refusals
+abbrev pub number_of : Refusal → ℕ
+number_of (Unread r) = refusal_number r
+number_of NoRoom = 52
 
--- what is handed back, and the room lent after it
-abbrev pub after : Conversion → List ℕ → Outcome
-after r room = record { number = r.number; place = r.place; bytes = r.bytes; room = room }
+-- and their places
+abbrev pub place_of : Refusal → ℕ
+place_of (Unread r) = r.place
+place_of NoRoom = 0
+
+-- what is handed back, and the room lent after it: 0, no place and how many bytes were written, or the refusal's number, its place and no bytes
+abbrev pub after : Result ℕ Refusal → List ℕ → Outcome
+after (Ok bytes) room = record { number = 0; place = 0; bytes = bytes; room = room }
+after (Err r) room = refusing (number_of r) (place_of r) room

@@ -2,89 +2,88 @@
 // refused leaves the room lent as it was.
 #![tactic(auto)]
 
-ghost use Rattle.std.specs.Prelude.{◌++◌, ◌≡◌, ◌≤◌, length, drop};
+ghost use Rattle.std.specs.Prelude.{◌≡◌, ◌≤◌, length};
 ghost use Rattle.limits.specs.Sizes.{most_book_bytes};
 ghost use Rattle.converter.specs.Convert.{laid, convert};
 ghost use Rattle.converter.specs.Scan.{scanned};
-ghost use Rattle.converter.specs.InCode.{after, refusal_of};
+ghost use Rattle.converter.specs.InCode.{after, number_of, place_of};
+ghost use Rattle.converter.specs.declared.Refusal.TheVariants.{Unread};
 
 mod made;
 mod put;
 
 use book::read_book;
 use limits::Limits;
-use made::made_of;
-use reading::{Reading, byte};
+use made::Old;
+use reading::{Asker, Fault, byte};
 
-// What the converter hands back: 0 or the number of the refusal, its place, and how many bytes it wrote.
-#[derive(Clone, Copy)]
-pub struct Conversion {
-    pub number: u8,
-    pub place: usize,
-    pub bytes: usize,
+// Why no book was converted.
+#[derive(Clone, Copy, Debug, PartialEq, Eq)]
+pub enum Refusal {
+    // The old book is not read, or is one of version 2.
+    Unread(reading::Refusal),
+    // The new book is longer than any book, or than the room lent.
+    NoRoom,
 }
 
-fn refused(number: u8, place: usize) -> Conversion
-    ensures { result ≡ refusal_of number place }
-{
-    Conversion {
-        number,
-        place,
-        bytes: 0,
+impl From<reading::Refusal> for Refusal {
+    ghost from_gives = { λ refusal result. result ≡ Unread refusal };
+
+    fn from(refusal: reading::Refusal) -> Refusal {
+        Refusal::Unread(refusal)
     }
 }
 
-// Copies the bytes that were made into the room lent.
-fn copy(from: &[u8], room: &mut [u8])
-    requires { length from.now ≤ length room.old }
-    ensures { room.new ≡ from.now ++ drop (length from.now) room.old }
-{
-    let mut i: usize = 0;
-    while i < from.len() {
-        room[i] = from[i];
-        i += 1;
+impl Refusal {
+    // Its number in document 01.
+    pub fn number(self) -> u8
+        ensures { result ≡ number_of self }
+    {
+        match self {
+            Refusal::Unread(refusal) => refusal.number(),
+            Refusal::NoRoom => 52,
+        }
+    }
+
+    // Its place in the old book, 0 where it has none.
+    pub fn place(self) -> usize
+        ensures { result ≡ place_of self }
+    {
+        match self {
+            Refusal::Unread(refusal) => refusal.place,
+            Refusal::NoRoom => 0,
+        }
     }
 }
 
-// Lays the new book of an admitted one into the room lent, if it has its size and there is room for all of it.
-fn lay(book: &[u8], ends: &[u16; Limits::BOOK], room: &mut [u8]) -> Conversion
-    requires { length book.now ≤ most_book_bytes }
-    ensures { after result room.new ≡ laid (scanned book.now ends.now) room.old }
+// Lays the new book of an admitted one into the room lent, if it has its size and there is room for all of it: how many bytes it has.
+fn lay(old: Old, room: &mut [u8]) -> Result<usize, Refusal>
+    requires { length old.book.now ≤ most_book_bytes }
+    ensures { after result room.new ≡ laid (scanned old.entry.book.now old.entry.ends.now) room.old }
 {
-    let made = made_of(book, ends);
+    let made = old.converted();
     let size = made.size;
     if Limits::BOOK < size {
-        return refused(52, 0);
+        return Err(Refusal::NoRoom);
     }
     if room.len() < size {
-        return refused(52, 0);
+        return Err(Refusal::NoRoom);
     }
-    let bytes = made.bytes;
-    copy(&bytes[0..size], room);
-    Conversion {
-        number: 0,
-        place: 0,
-        bytes: size,
-    }
+    room[..size].copy_from_slice(&made.bytes[..size]);
+    Ok(size)
 }
 
-// Writes an admitted version 1 book as version 2 into the room lent, from its first byte on.
-pub fn convert_book(book: &[u8], room: &mut [u8]) -> Conversion
+// Writes an admitted version 1 book as version 2 into the room lent, from its first byte on: how many bytes it has.
+pub fn convert_book(book: &[u8], room: &mut [u8]) -> Result<usize, Refusal>
     ensures { after result room.new ≡ convert book.now room.old }
 {
     if Limits::BOOK < book.len() {
-        return refused(1, 0);
+        return Err(Refusal::Unread(Fault::Extent.at(Asker::Book, 0)));
     }
     if byte(book, 0) == 2 {
-        return refused(2, 0);
+        return Err(Refusal::Unread(Fault::Version.at(Asker::Book, 0)));
     }
-    let index = read_book(book);
-    let reading = index.reading;
-    match reading {
-        Reading::Refusal { number, place } => refused(number, place),
-        Reading::Got { value: _, next: _ } => {
-            let ends = index.ends;
-            lay(book, &ends, room)
-        }
-    }
+    let index = read_book(book)?;
+    let ends = &index.ends;
+    lay(Old { book, ends }, room)
 }

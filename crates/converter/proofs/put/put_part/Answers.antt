@@ -8,10 +8,10 @@ pub loop-i-preserved : goal.loop-i-preserved
 loop-i-preserved c =
     let a = c.args in
     let turn = c.loop-i in
-    (omega arith, c.put_byte.ensures ∙ put-more a.made.now a.from.now turn.made a.q turn.i turn.invariant.1 _ 0 (omega arith) refl)
+    c.put_byte.ensures ∙ put-more a.made.now a.from.now turn.made a.q turn.i turn.invariant _ 0 (omega arith) refl
 
 pub returns : goal.returns
 returns c =
     let a = c.args in
     let turn = c.loop-i in
-    put_all a.made.now a.from.now turn.made a.q turn.i turn.invariant.1 (omega arith)
+    put_all a.made.now a.from.now turn.made a.q turn.i turn.invariant (omega arith)

@@ -1,12 +1,8 @@
--- What the loops of `put_part` keep.
+-- What the loop of `put_part` keeps.
 use mathlib.Core.Path.{◌≡◌}
-use Prim.Native.Nat.{◌-◌, ◌≤◌}
-use lib.ListN.{length, take}
+use lib.ListN.{take}
 use lib.Seq.{sets}
 use Rattle.converter.proofs.put.put_part.Given as goal
 
 abbrev pub invariant-loop-i : goal.invariant-loop-i
-invariant-loop-i l = (l.i ≤ length l.from) × (l.made ≡ sets l.initial.made l.q (take l.i l.from))
-
-abbrev pub decreases-loop-i : goal.decreases-loop-i
-decreases-loop-i l = length l.from - l.i
+invariant-loop-i l = l.made ≡ sets l.initial.made l.q (take l.i l.from)

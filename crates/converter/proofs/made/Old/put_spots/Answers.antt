@@ -6,7 +6,7 @@ use lib.ListN.{length}
 use Rattle.writer.proofs.Putting.{left-length, left-put}
 use Rattle.converter.specs.Scan.{spot_bytes, spots}
 use Rattle.converter.proofs.ScanWays.{onward, spots-none, spots-more}
-use Rattle.converter.proofs.made.put_spots.Goals as goal
+use Rattle.converter.proofs.made.Old.put_spots.Goals as goal
 
 pub loop-at-init : goal.loop-at-init
 loop-at-init c = (omega arith, omega arith, omega arith, refl, refl)
@@ -15,14 +15,14 @@ pub loop-at-smaller : goal.loop-at-smaller
 loop-at-smaller c =
     let a = c.args in
     let l = c.loop-at in
-    omega (arith, c.put_spot-at.ensures.old, (onward a.book.now a.ends.now l.at.old).more)
+    omega (arith, c.put_spot-at.ensures.old, (onward a.self.book.now a.self.ends.now l.at.old).more)
 
 pub loop-at-preserved : goal.loop-at-preserved
 loop-at-preserved c =
     let a = c.args in
     let l = c.loop-at in
-    let book = a.book.now in
-    let ends = a.ends.now in
+    let book = a.self.book.now in
+    let ends = a.self.ends.now in
     let far = onward book ends l.at.old in
     let put = c.put_spot-at.ensures in
     let now = spot_bytes book ends l.at.old in
@@ -39,5 +39,5 @@ pub returns : goal.returns
 returns c =
     let a = c.args in
     let l = c.loop-at in
-    let none = spots-none a.book.now a.ends.now a.e l.at.old c.loop-at-test.false in
+    let none = spots-none a.self.book.now a.self.ends.now a.e l.at.old c.loop-at-test.false in
     record { behind = omega (arith, ap length none); near = omega arith; put = λ fits. rw none at l.invariant.4 }

@@ -1,7 +1,7 @@
 -- `put_item` meets its contract: the tree is put, and then its length in front of it.
 use native.Mathlib.Omega.{arith}
 use Rattle.converter.proofs.ScanWays.{counted-put}
-use Rattle.converter.proofs.made.put_item.Goals as goal
+use Rattle.converter.proofs.made.Old.put_item.Goals as goal
 
 pub returns : goal.returns
 returns c =

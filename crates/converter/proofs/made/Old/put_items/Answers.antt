@@ -7,7 +7,7 @@ use lib.ListN.{length}
 use Rattle.writer.proofs.Putting.{left-length, left-put}
 use Rattle.converter.specs.Scan.{item_to, items}
 use Rattle.converter.proofs.ScanWays.{items-none, items_more}
-use Rattle.converter.proofs.made.put_items.Goals as goal
+use Rattle.converter.proofs.made.Old.put_items.Goals as goal
 
 pub loop-old-init : goal.loop-old-init
 loop-old-init c = (omega arith, omega arith, omega arith, refl, λ fits. refl)
@@ -16,8 +16,8 @@ pub loop-old-preserved : goal.loop-old-preserved
 loop-old-preserved c =
     let a = c.args in
     let l = c.loop-old in
-    let book = a.book.now in
-    let ends = a.ends.now in
+    let book = a.self.book.now in
+    let ends = a.self.ends.now in
     let e = l.old + 2 + c.number.result in
     let put = c.put_item-new.ensures in
     let now = item_to book ends e l.old in
@@ -34,5 +34,5 @@ pub returns : goal.returns
 returns c =
     let a = c.args in
     let l = c.loop-old in
-    let none = items-none a.book.now a.ends.now l.old c.loop-old-test.false in
+    let none = items-none a.self.book.now a.self.ends.now l.old c.loop-old-test.false in
     record { behind = omega (arith, ap length none); near = omega arith; put = λ fits. rw none at (l.invariant.4 fits) }
