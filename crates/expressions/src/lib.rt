@@ -64,7 +64,7 @@ struct Item<'a> {
     who: Asker,
 }
 
-// The sorts of the variables bound, and of one more behind them.
+// The sorts of the variables bound, and of one more behind them: there is no heap, so in an array with room for all that may be bound.
 fn with_one_more(vars: &[u8], sort: u8) -> [u8; Limits::VARIABLES]
     requires { length vars.now < most_variables }
     ensures { take (length vars.now + 1) result ≡ vars.now ++ (sort ∷ []) }

@@ -1,16 +1,14 @@
 -- `read_expr`, `read_row`, `read_shared` and `read_body` meet their contracts: at whatever depth is enough, each is one level of the definition over the
 -- others; `read_shared` as many levels as shared parts stand directly in each other, whose codes it reads inward and whose bodies outward.
-use Prim.Native.Nat.{ℕ, ◌+◌, ◌-◌, ◌<◌}
+use Prim.Native.Nat.{◌+◌, ◌-◌, ◌<◌}
 use mathlib.Core.Path.{◌≡◌, refl, sym, ap, ◌∙◌}
 use native.Mathlib.Numerals.{add-one}
 use native.Mathlib.Omega.{arith}
 use lib.ListN.{length, get_or}
-use mathlib.Core.List.{List}
 use Rattle.reading.proofs.Exits.{handed_on}
-use Rattle.reading.specs.Answer.{keeping, base_of}
+use Rattle.reading.specs.Answer.{base_of}
 use Rattle.expressions.specs.Codes.{number_of}
 use Rattle.expressions.specs.Items.{symbols_of, expr_in}
-use Rattle.expressions.specs.ExpressionAt.{left_of}
 use Rattle.expressions.proofs.Ways.{expr-past, expr-variable, expr-shared, expr-refused, expr-fail, expr-choice, expr-not-applied, expr-applied, expr_onward, applied-arguments, applied-behind}
 use Rattle.expressions.proofs.Ways.{shared-first-edition, shared-many, shared-past, shared-sort}
 use Rattle.expressions.proofs.Nested.{is-there, inward_none, inward_refused, inward_within, within_inward, within-read, outward_refused, outward_more, outward_last}
@@ -109,14 +107,6 @@ read_expr-returns-in_ok-f-in-Apply t c =
     let arguments = applied-arguments i.book.now i.at.now i.s.now (base_of i.who) (length i.s.now) a.sort a.p applied in
     λ f h. expr-applied i.s.now (base_of i.who) (symbols_of i) (length i.s.now) a.vars.now a.sort a.left a.p f h c.if-e-p.false _ c.in_ok-left-in-Apply.ensures is applied (c.arguments_of.ensures.0 ∙ arguments) c.read_row.ensures
 
-pub read_row-loop-sort-init : goal.read_row-loop-sort-init
-read_row-loop-sort-init t c = (omega arith, λ f h. refl)
-
-pub read_row-read_expr-requires : goal.read_row-read_expr-requires
-read_row-read_expr-requires t c =
-    let l = c.loop-sort in
-    (omega (arith, l.invariant.0), tt)
-
 pub read_row-returns-in_err-rest : goal.read_row-returns-in_err-rest
 read_row-returns-in_err-rest t c =
     let a = c.args in
@@ -142,11 +132,6 @@ read_row-returns t c =
     let i = a.self.now in
     let l = c.loop-sort in
     λ f h. row-none (expr_in i f a.vars.now) a.sorts.now l.sort-index l.rest l.next c.loop-sort-test.false ∙ sym (l.invariant.1 f h)
-
-pub read_body-returns : goal.read_body-returns
-read_body-returns t c =
-    let a = c.args in
-    λ f h. c.read_expr.ensures f h ∙ ap (λ (v : List ℕ). keeping left_of (expr_in a.self.now f v a.sort a.left a.p)) c.with_one_more-more.ensures
 
 pub read_shared-returns-then-byte-ne2 : goal.read_shared-returns-then-byte-ne2
 read_shared-returns-then-byte-ne2 t c =
@@ -206,12 +191,6 @@ read_shared-loop-k-init t c =
     let l = c.inward in
     let within = inward_within i.s.now (base_of i.who) (symbols_of i) (length i.s.now) a.vars.now a.sort a.left a.p l.invariant (omega arith) (omega arith) c.byte-in-inward.ensures (omega arith) (omega arith) in
     within-read i.s.now (base_of i.who) (symbols_of i) (length i.s.now) a.vars.now a.sort a.left a.p within (omega (arith, within.place)) (omega arith) c.byte-2.ensures c.in_ok-rest.ensures
-
-pub read_shared-read_body-requires : goal.read_shared-read_body-requires
-read_shared-read_body-requires t c =
-    let l = c.loop-k in
-    let onward = l.invariant.onward l.rest l.next refl in
-    (omega (arith, onward), omega arith)
 
 pub read_shared-returns-in_err-rest-2 : goal.read_shared-returns-in_err-rest-2
 read_shared-returns-in_err-rest-2 t c =
