@@ -360,15 +360,6 @@ nothing_said zero n = Says.nothing
 nothing_said (suc k) zero = Says.nothing
 nothing_said (suc k) (suc n) = nothing_said k n
 
-abbrev pub one_if : Bool → ℕ
-one_if true = 1
-one_if false = 0
-
-pub met_less : (S : Symbols) (h : Heap) (before after : List ℕ) (changed again : Bool) → again ≡ true → MetPassed S h before after changed
-    → all_left (length h) after + one_if changed < all_left (length h) before + one_if again
-met_less S h before after true again is p = rw is (omega (arith, p.fewer refl))
-met_less S h before after false again is p = rw (is, p.same refl) (omega arith)
-
 -- ---- as the code joins
 
 pub join_1 : (a b : ℕ) → a ≡ 0 → b ≡ joined a b
