@@ -18,10 +18,11 @@ use denote.Triple.Clauses.{Ended, AtExit}
 use denote.Triple.Entry.{Args, Res}
 use Rattle.limits.specs.declared.Decisions.{Decisions}
 use Rattle.limits.specs.declared.Entry.{Entry as LentEntry}
-use Rattle.reading.specs.declared.Reading.{Reading as Answered}
-use Rattle.reading.specs.declared.Reading.TheVariants.{Got, Refusal}
+use Rattle.std.specs.Prelude.{Result as Either, IfOk}
+use Rattle.reading.specs.declared.Refusal.{Refusal}
 use Rattle.reading.specs.Reading.{Reading}
-use Rattle.reading.specs.Answer.{reading_of}
+use Rattle.reading.specs.Answer.{reading_of, reading_by}
+use Rattle.reading.proofs.Told.{same_reading, same_told}
 use Rattle.symbol_part.specs.declared.SymbolPart.{SymbolPart}
 use Rattle.book.specs.declared.BookIndex.{BookIndex}
 use Rattle.writer.specs.declared.Written.{Written}
@@ -90,32 +91,36 @@ one_set r r' one other = rw (one, other) refl
 pub one-row : {numbers : List ℕ} (r r' : Row) → r.numbers ≡ numbers → r'.numbers ≡ numbers → r ≡ r'
 one-row r r' one other = rw (one, other) refl
 
--- no two answers of a reader mean the same
-pub same_reading : (r r' : Answered) → reading_of r ≡ reading_of r' → r ≡ r'
-same_reading (Got value next) (Got value' next') same = cc
-same_reading (Got value next) (Refusal number place) same = cc
-same_reading (Refusal number place) (Got value next) same = cc
-same_reading (Refusal number place) (Refusal number' place') same = cc
-
--- so what a reader answers is fixed by what it means: by `keeping ..` of what the definitions read, as by any other term
-pub one_reading : {t : Reading ℕ} (r r' : Answered) → reading_of r ≡ t → reading_of r' ≡ t → r ≡ r'
+-- what a reader answers is fixed by what it means, as no two answers mean the same: by `keeping ..` of what the definitions read, as by any other term
+pub one_reading : {t : Reading ℕ} (r r' : Either (ℕ × ℕ) Refusal) → reading_of r ≡ t → reading_of r' ≡ t → r ≡ r'
 one_reading r r' one other = same_reading r r' (one_value one other)
 
 -- the symbol part, field by field
-pub one-symbol-part : {t : Reading ℕ} {at ranks next first : List ℕ} (r r' : SymbolPart)
-    → (reading_of r.reading ≡ t) × (r.at ≡ at) × (r.ranks ≡ ranks) × (r.next ≡ next) × (r.first ≡ first)
-    → (reading_of r'.reading ≡ t) × (r'.at ≡ at) × (r'.ranks ≡ ranks) × (r'.next ≡ next) × (r'.first ≡ first)
-    → r ≡ r'
-one-symbol-part r r' (reading, at, ranks, next, first) (reading', at', ranks', next', first') =
-    rw (one_reading r.reading r'.reading reading reading', at, ranks, next, first, at', ranks', next', first') refl
+module _ {at ranks next first : List ℕ} where
+  abbrev pub PartIs : SymbolPart → Type 0
+  PartIs p = (p.at ≡ at) × (p.ranks ≡ ranks) × (p.chain.next ≡ next) × (p.chain.first ≡ first)
+
+  one_part : (p p' : SymbolPart) → PartIs p → PartIs p' → p.count ≡ p'.count → p.next ≡ p'.next → p ≡ p'
+  one_part p p' (at, ranks, next, first) (at', ranks', next', first') count behind =
+      rw (count, behind, at, ranks, next, first, at', ranks', next', first') refl
+
+  pub one-symbol-part : {t : Reading ℕ} (r r' : Either SymbolPart Refusal)
+      → (reading_by (λ p. (p.count, p.next)) r ≡ t) × IfOk r PartIs → (reading_by (λ p. (p.count, p.next)) r' ≡ t) × IfOk r' PartIs → r ≡ r'
+  one-symbol-part r r' (reading, arrays) (reading', arrays') =
+      same_told (λ p. (p.count, p.next)) PartIs one_part r r' arrays arrays' (one_value reading reading')
 
 -- the index of a book, field by field
-pub one_index : {t : Reading ℕ} {at info ends : List ℕ} (r r' : BookIndex)
-    → (reading_of r.reading ≡ t) × (r.at ≡ at) × (r.info ≡ info) × (r.ends ≡ ends)
-    → (reading_of r'.reading ≡ t) × (r'.at ≡ at) × (r'.info ≡ info) × (r'.ends ≡ ends)
-    → r ≡ r'
-one_index r r' (reading, at, info, ends) (reading', at', info', ends') =
-    rw (one_reading r.reading r'.reading reading reading', at, info, ends, at', info', ends') refl
+module _ {at info ends : List ℕ} where
+  abbrev pub IndexIs : BookIndex → Type 0
+  IndexIs i = (i.at ≡ at) × (i.info ≡ info) × (i.ends ≡ ends)
+
+  one_of_index : (i i' : BookIndex) → IndexIs i → IndexIs i' → i.count ≡ i'.count → i.next ≡ i'.next → i ≡ i'
+  one_of_index i i' (at, info, ends) (at', info', ends') count behind = rw (count, behind, at, info, ends, at', info', ends') refl
+
+  pub one_index : {t : Reading ℕ} (r r' : Either BookIndex Refusal)
+      → (reading_by (λ i. (i.count, i.next)) r ≡ t) × IfOk r IndexIs → (reading_by (λ i. (i.count, i.next)) r' ≡ t) × IfOk r' IndexIs → r ≡ r'
+  one_index r r' (reading, arrays) (reading', arrays') =
+      same_told (λ i. (i.count, i.next)) IndexIs one_of_index r r' arrays arrays' (one_value reading reading')
 
 -- what the book writer hands back, and the room lent after it
 pub one_written : {t : Writing} (r r' : Written) (room room' : List ℕ) → written_as r room ≡ t → written_as r' room' ≡ t → (r ≡ r') × (room ≡ room')
@@ -145,7 +150,7 @@ one-saved r r' row row' one other =
     (ap back same, ap (λ (o : SavedAs). o.row) same)
 
 -- what is answered of an answer's symbols, and the totals after it
-pub one_added : {t : Reading ℕ} {left : List ℕ} (r r' : Answered) (row' row'' : List ℕ)
+pub one_added : {t : Reading ℕ} {left : List ℕ} (r r' : Either (ℕ × ℕ) Refusal) (row' row'' : List ℕ)
     → (reading_of r ≡ t) × (row' ≡ left) → (reading_of r' ≡ t) × (row'' ≡ left) → (r ≡ r') × (row' ≡ row'')
 one_added r r' row' row'' one other = (one_reading r r' one.0 other.0, one_value one.1 other.1)
 
