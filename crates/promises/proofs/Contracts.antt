@@ -1,6 +1,6 @@
 -- The contracts that the kit makes of the code's own `ensures`, as theorems speak of them: whoever changes an `ensures` changes what is shown here.
 use seplogic.Ra.Ura.{Ura}
-use base.Logic.{SProp, emp}
+use base.Logic.{SProp, emp, sep}
 use prog.Memory.{Memory}
 use prog.Routine.{Routine}
 use types.Logic.{Logic}
@@ -23,6 +23,11 @@ module _ (T : Ended) where
   -- the contract that asks for nothing and ensures the claim
   abbrev pub ensuring : Claim → Contract T
   ensuring claim M 𝓤 𝓛 mem run κs a = record { ghost = Unit {0}; requires = λ g. emp 𝓤; ensures = λ g z e. fact 𝓤 (claim κs a z e) }
+
+  -- the same of two claims, a clause for each
+  abbrev pub ensuring_both : Claim → Claim → Contract T
+  ensuring_both first second M 𝓤 𝓛 mem run κs a =
+      record { ghost = Unit {0}; requires = λ g. emp 𝓤; ensures = λ g z e. sep 𝓤 (fact 𝓤 (first κs a z e)) (fact 𝓤 (second κs a z e)) }
 
 -- a call of `run`: lent memory before it, and as it leaves it
 module _ (κs : Lfts (run.signature).lifetimes) where

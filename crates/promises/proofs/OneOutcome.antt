@@ -8,7 +8,7 @@ use native.Mathlib.Omega.{arith}
 use lib.ListN.{take, drop, length, take-append-drop}
 use lib.Seq.{ext_get_or}
 use seplogic.Ra.Ura.{Ura}
-use base.Logic.{SProp, ent}
+use base.Logic.{SProp, ent, sep, via, fst∗, snd∗}
 use prog.Memory.{Memory}
 use prog.Routine.{Routine}
 use types.Logic.{Logic}
@@ -46,7 +46,7 @@ use Rattle.figures.specs.InCode.{after as figured_as}
 use Rattle.run.specs.declared.whole.Outcome.{Outcome as CodeOutcome}
 use Rattle.run.specs.declared.whole.Owned.{Owned}
 use Rattle.run.specs.Outcomes.{after}
-use Rattle.promises.proofs.Contracts.{Contract, Claim, ensuring}
+use Rattle.promises.proofs.Contracts.{Contract, Claim, ensuring, ensuring_both}
 
 module _ (T : Ended) where
   -- what is the same in two outcomes: of the results z and z', and of the parameters at exit, e and e'
@@ -74,6 +74,26 @@ module _ (T : Ended) where
         let other : SProp 𝓤 = fact 𝓤 (claim κs a z' e') in
         fact_use 𝓤 (claim κs a z e) (conj_l 𝓤 one other) (λ c. fact_use 𝓤 (claim κs a z' e') (conj_r 𝓤 one other)
         (λ c'. fact_i 𝓤 (Same κs z z' e e') (conj 𝓤 one other) (same κs a z z' e e' c c')))
+
+  -- and of a contract that ensures two plain claims
+  module _ {first second : Claim T} {Same : Sameness} where
+    pub by_both : ((κs : Lfts T.signature.lifetimes) (a : Args T.signature κs) (z z' : Res T.signature κs) (e e' : AtExit T κs)
+        → first κs a z e × second κs a z e → first κs a z' e' × second κs a z' e' → Same κs z z' e e')
+        → OneOutcome Same (ensuring_both T first second)
+    by_both same M 𝓤 𝓛 mem run κs a g z z' e e' =
+        let p : SProp 𝓤 = fact 𝓤 (first κs a z e) in
+        let q : SProp 𝓤 = fact 𝓤 (second κs a z e) in
+        let p' : SProp 𝓤 = fact 𝓤 (first κs a z' e') in
+        let q' : SProp 𝓤 = fact 𝓤 (second κs a z' e') in
+        let one : SProp 𝓤 = sep 𝓤 p q in
+        let other : SProp 𝓤 = sep 𝓤 p' q' in
+        let left = conj_l 𝓤 one other in
+        let right = conj_r 𝓤 one other in
+        fact_use 𝓤 (first κs a z e) (via 𝓤 one left (fst∗ 𝓤 p q)) (λ c.
+        fact_use 𝓤 (second κs a z e) (via 𝓤 one left (snd∗ 𝓤 p q)) (λ d.
+        fact_use 𝓤 (first κs a z' e') (via 𝓤 other right (fst∗ 𝓤 p' q')) (λ c'.
+        fact_use 𝓤 (second κs a z' e') (via 𝓤 other right (snd∗ 𝓤 p' q')) (λ d'.
+        fact_i 𝓤 (Same κs z z' e e') (conj 𝓤 one other) (same κs a z z' e e' (c, d) (c', d'))))))
 
 -- the plain form, of a result, of lent numbers at exit and of the bytes of a slice that is handed out: what is said to equal one term is one
 pub one_value : {A : Type 0} {t r r' : A} → r ≡ t → r' ≡ t → r ≡ r'

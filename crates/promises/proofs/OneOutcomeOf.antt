@@ -51,7 +51,7 @@ use Rattle.run.specs.contracts.run
 use Rattle.run.specs.contracts.run_owned as run-owned
 use Rattle.promises.proofs.Contracts.{left_by}
 use Rattle.promises.proofs.OneOutcome.{OneOutcome, OneResult, by_claim, one_value, one_bounded, one_set, one-row, one_reading}
-use Rattle.promises.proofs.OneOutcome.{one-symbol-part, one_index, one_written, one-converted, one-listed, one-saved, one_added, one_less, one_figured, one-run, one_owned}
+use Rattle.promises.proofs.OneOutcome.{by_both, one-symbol-part, one_index, one_written, one-converted, one-listed, one-saved, one_added, one_less, one_figured, one-run, one_owned}
 
 -- crate `limits`
 pub all_open_one : OneResult all_open.ended (λ M 𝓤 𝓛. all_open.clauses 𝓛)
@@ -115,7 +115,7 @@ arity_of_one = by_claim arity-of.ended (λ κs a z z' e e'. one_bounded)
 
 -- crate `symbol_part`
 pub read-symbol-part-one : OneResult read-symbol-part.ended (λ M 𝓤 𝓛. read-symbol-part.clauses 𝓛)
-read-symbol-part-one = by_claim read-symbol-part.ended (λ κs a z z' e e'. one-symbol-part z z')
+read-symbol-part-one = by_both read-symbol-part.ended (λ κs a z z' e e'. one-symbol-part z z')
 
 pub symbols-read-one : OneResult symbols-read.ended (λ M 𝓤 𝓛. symbols-read.clauses 𝓛)
 symbols-read-one = by_claim symbols-read.ended (λ κs a z z' e e'. one_bounded)
@@ -126,7 +126,7 @@ read-whole-one = by_claim read_whole.ended (λ κs a z z' e e'. one_reading z z'
 
 -- crate `book`
 pub read-book-one : OneResult read-book.ended (λ M 𝓤 𝓛. read-book.clauses 𝓛)
-read-book-one = by_claim read-book.ended (λ κs a z z' e e'. one_index z z')
+read-book-one = by_both read-book.ended (λ κs a z z' e e'. one_index z z')
 
 pub rows-read-one : OneResult rows-read.ended (λ M 𝓤 𝓛. rows-read.clauses 𝓛)
 rows-read-one = by_claim rows-read.ended (λ κs a z z' e e'. one_bounded)
