@@ -9,17 +9,18 @@ use lib.Dec.{ltb, eqb}
 use lib.ListN.{length, get_or}
 use Rattle.reading.specs.Reading.{Reading, got, refusal, refuse◌at◌if◌else◌}
 use Rattle.reading.specs.Bytes.{big_endian}
-use Rattle.reading.specs.Answer.{keeping}
-use Rattle.reading.specs.declared.Reading.{Reading as Answered}
-use Rattle.reading.specs.declared.Reading.TheVariants.{Got, Refusal}
+use Rattle.reading.specs.Answer.{keeping, nothing}
+use Rattle.std.proofs.Common.{Ok, Err}
+use Rattle.tallies.specs.declared.Refusal.{Refusal}
+use Rattle.tallies.specs.declared.Fault.TheVariants.{Layout}
 use Rattle.reading.proofs.Good.{Good, good, good-got, each, then-good, unless}
 use Rattle.reading.proofs.Keeping.{kept-got, kept-refusal, then-got, then-refusal, passed, failed-test}
 use Rattle.figures.specs.AnswerBook.{rising, record_at}
 use Rattle.tallies.specs.Tallied.{tallied}
 use Rattle.figures.specs.Figures.{symbols_added, answer_at, records_at, book_end, book_at, books_at, ended_as, figures}
 use Rattle.tallies.specs.Tallied.{how_many}
-use Rattle.tallies.specs.InCode.{AddedAs, TakenBack, answer_over}
-use Rattle.figures.specs.InCode.{count_of, record_over, behind_record, records_over, book_over, after}
+use Rattle.tallies.specs.InCode.{number_of, AddedAs, TakenBack, answer_over}
+use Rattle.figures.specs.InCode.{record_over, behind_record, records_over, book_over, after}
 use Rattle.tallies.proofs.Exactly.{whatever}
 use Rattle.tallies.proofs.Tallying.{Added, adds, once, tallied_added}
 use Rattle.tallies.proofs.Tallying.{WithAnswers}
@@ -29,8 +30,8 @@ use Rattle.tallies.proofs.TallyWays.{adds_refused, adds_got, added_refusal, adde
 use Rattle.figures.proofs.Repeated.{repeated, then_cong, EachCounts, all-count}
 
 -- what is refused with 60
-pub refused_as_lem : {t : Reading (List ℕ)} (row row' : List ℕ) (r : Answered) {p : ℕ} → r ≡ Refusal 60 p → t ≡ refusal 60 p → row' ≡ row → AddedAs t r row row'
-refused_as_lem row row' r answer told same = rw answer (adds_refused row told same)
+pub refused_as_lem : {t : Reading (List ℕ)} (row row' : List ℕ) (r : Refusal) {p : ℕ} → r ≡ record { fault = Layout; place = p } → t ≡ refusal 60 p → row' ≡ row → AddedAs t (Err r) row row'
+refused_as_lem row row' r {p} answer told same = rw answer (adds_refused row (record { fault = Layout; place = p }) told same)
 
 -- ---- the symbols of a record, and its decisions
 
@@ -45,14 +46,14 @@ module _ (bs row : List ℕ) (count from : ℕ) where
 
   module _ (p end : ℕ) where
     -- they are refused
-    pub symbols-refused : {row' : List ℕ} {c q : ℕ} → AddedAs (tallied bs row [] count from) (Refusal c q) row row' → AddedAs (symbols_added bs row count from p end) (Refusal c q) row row'
+    pub symbols-refused : {row' : List ℕ} (r : Refusal) → AddedAs (tallied bs row [] count from) (Err r) row row' → AddedAs (symbols_added bs row count from p end) (Err r) row row'
     unfolding symbols_added
-    symbols-refused told =
-        let is = added_refusal row told in
-        adds_refused row (then-refusal _ is.0) is.1
+    symbols-refused r told =
+        let is = added_refusal row r told in
+        adds_refused row r (then-refusal _ is.0) is.1
 
     -- they are added; then its decisions rise, or they do not, and the symbols are taken back
-    module _ {row' : List ℕ} {v q : ℕ} (told : AddedAs (tallied bs row [] count from) (Got v q) row row') where
+    module _ {row' : List ℕ} {q : ℕ} (told : AddedAs (tallied bs row [] count from) (Ok q) row row') where
       to-decisions : symbols_added bs row count from p end
           ≡ refuse◌at◌if◌else◌ 60 p (not (rising bs ((end - (from + 2 * count)) / 2) 0 (from + 2 * count))) (λ _. got row' end)
       unfolding symbols_added
@@ -61,11 +62,11 @@ module _ (bs row : List ℕ) (count from : ℕ) where
           let stop = (good-got tallied-counts is).1 in
           then-got _ is ∙ ap (λ (n : ℕ). refuse◌at◌if◌else◌ 60 p (not (rising bs ((end - n) / 2) 0 n)) (λ _. got row' end)) stop
 
-      pub decisions_rise : rising bs ((end - (from + 2 * count)) / 2) 0 (from + 2 * count) ≡ true → AddedAs (symbols_added bs row count from p end) (Got 0 end) row row'
+      pub decisions_rise : rising bs ((end - (from + 2 * count)) / 2) 0 (from + 2 * count) ≡ true → AddedAs (symbols_added bs row count from p end) (Ok end) row row'
       decisions_rise h = adds_got row (to-decisions ∙ passed 60 p (ap not h))
 
       pub decisions_fall : rising bs ((end - (from + 2 * count)) / 2) 0 (from + 2 * count) ≡ false → (row'' : List ℕ) → TakenBack row' (answer_over bs count from) row''
-          → (r : Answered) → r ≡ Refusal 60 p → AddedAs (symbols_added bs row count from p end) r row row''
+          → (r : Refusal) → r ≡ record { fault = Layout; place = p } → AddedAs (symbols_added bs row count from p end) (Err r) row row''
       decisions_fall h row'' back r answer =
           let added = (good-got tallied-counts (added_got row told)).0 in
           refused_as_lem row row'' r answer (to-decisions ∙ failed-test 60 p _ (ap not h)) (there_and_back (answer_over bs count from) row row' row'' added back)
@@ -75,15 +76,15 @@ module _ (bs row : List ℕ) (count from : ℕ) where
 module _ (bs : List ℕ) (version e : ℕ) where
   module _ (row : List ℕ) (p : ℕ) where
     -- it is refused,
-    pub record_refused : {c q : ℕ} → refusal c q ≡ keeping count_of (record_at bs version e p) → AddedAs (answer_at bs version e row p) (Refusal c q) row row
+    pub record_refused : (r : Refusal) → refusal (number_of r.fault) r.place ≡ keeping nothing (record_at bs version e p) → AddedAs (answer_at bs version e row p) (Err r) row row
     unfolding answer_at
-    record_refused told = adds_refused row (then-refusal _ (kept-refusal count_of (record_at bs version e p) told)) refl
+    record_refused r told = adds_refused row r (then-refusal _ (kept-refusal nothing (record_at bs version e p) told)) refl
 
     -- or read up to its symbols
-    module _ {count end : ℕ} (told : got count end ≡ keeping count_of (record_at bs version e p)) where
+    module _ {end : ℕ} (told : got 0 end ≡ keeping nothing (record_at bs version e p)) where
       extent : (a : _) × (record_at bs version e p ≡ got a end) × Extent bs version e p a end
       extent =
-          let kept = kept-got count_of (record_at bs version e p) told in
+          let kept = kept-got nothing (record_at bs version e p) told in
           (kept.0, kept.1, good-got (record_extent bs version e p) kept.1)
 
       -- n of them
@@ -198,12 +199,12 @@ module _ (bs : List ℕ) where
 
 -- what is handed back, and the row after it
 module _ (bs row : List ℕ) (row' : List ℕ) where
-  pub books_refused : {c q : ℕ} → AddedAs (books_at bs (length bs) row 0) (Refusal c q) row row' → after (record { number = c; place = q }) row' ≡ figures bs row
+  pub books_refused : (r : Refusal) → AddedAs (books_at bs (length bs) row 0) (Err r) row row' → after (Err r) row' ≡ figures bs row
   unfolding figures ended_as
-  books_refused {c} {q} told =
-      let is = added_refusal row told in
-      ap (after (record { number = c; place = q })) is.1 ∙ sym (ap (ended_as row) is.0)
+  books_refused r told =
+      let is = added_refusal row r told in
+      ap (after (Err r)) is.1 ∙ sym (ap (ended_as row) is.0)
 
-  pub books_added : {v q : ℕ} → AddedAs (books_at bs (length bs) row 0) (Got v q) row row' → after (record { number = 0; place = 0 }) row' ≡ figures bs row
+  pub books_added : {q : ℕ} → AddedAs (books_at bs (length bs) row 0) (Ok q) row row' → after (Ok tt) row' ≡ figures bs row
   unfolding figures ended_as
   books_added told = sym (ap (ended_as row) (added_got row told))

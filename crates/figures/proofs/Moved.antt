@@ -9,7 +9,8 @@ use lib.ListN.{length, get_or, set, take, drop, length-drop}
 use lib.Seq.{get_or-drop, take_all}
 use Rattle.reading.specs.Reading.{Reading, got, refusal, refuse◌at◌if◌else◌}
 use Rattle.reading.specs.Bytes.{big_endian}
-use Rattle.reading.specs.declared.Reading.TheVariants.{Got, Refusal}
+use Rattle.std.proofs.Common.{Ok, Err}
+use Rattle.tallies.specs.declared.Refusal.{Refusal}
 use Rattle.book.specs.TreeAt.{is_in}
 use Rattle.tallies.specs.Tallied.{most_total, symbols_at, tallied}
 use Rattle.tallies.specs.InCode.{AddedAs, TakenBack, answer_over}
@@ -62,9 +63,9 @@ module _ (bs : List ℕ) where
       tested_before e p (omega arith) (is_in f seen) (leb (length row) f) (leb most_total total) _ _ (tallied-before e row seen k (p + 2) (omega arith))
       (tallied-before e (set row f (suc total)) (f ∷ seen) k (p + 2) (omega arith))
 
-  pub refused-before : (row : List ℕ) (count : ℕ) {row' : List ℕ} {c q : ℕ} → AddedAs (tallied bs row [] count 0) (Refusal c q) row row' → q ≤ 2 * count
+  pub refused-before : (row : List ℕ) (count : ℕ) (r : Refusal) {row' : List ℕ} → AddedAs (tallied bs row [] count 0) (Err r) row row' → r.place ≤ 2 * count
   unfolding Before
-  refused-before row count told = rw (added_refusal row told).0 at (tallied-before (2 * count) row [] count 0 (omega arith))
+  refused-before row count r told = rw (added_refusal row r told).0 at (tallied-before (2 * count) row [] count 0 (omega arith))
 
   module _ (from : ℕ) where
     big_moved : (p q : ℕ) → q ≡ from + p → big_endian (drop from bs) p ≡ big_endian bs q
@@ -118,12 +119,12 @@ module _ (bs : List ℕ) where
       moved_back count back = rw (answer_same count) at back
 
       module _ (row : List ℕ) (count : ℕ) {row' : List ℕ} where
-        pub moved-refused : {c q : ℕ} → AddedAs (tallied part row [] count 0) (Refusal c q) row row' → AddedAs (tallied bs row [] count from) (Refusal c (from + q)) row row'
+        pub moved-refused : (r : Refusal) → AddedAs (tallied part row [] count 0) (Err r) row row' → AddedAs (tallied bs row [] count from) (Err (record { fault = r.fault; place = from + r.place })) row row'
         unfolding moved_by
-        moved-refused told =
-            let was = added_refusal row told in
-            adds_refused row (tallied-same row count ∙ ap (moved_by from) was.0) was.1
+        moved-refused r told =
+            let was = added_refusal row r told in
+            adds_refused row (record { fault = r.fault; place = from + r.place }) (tallied-same row count ∙ ap (moved_by from) was.0) was.1
 
-        pub moved-got : {v q : ℕ} → AddedAs (tallied part row [] count 0) (Got v q) row row' → AddedAs (tallied bs row [] count from) (Got 0 (from + q)) row row'
+        pub moved-got : {q : ℕ} → AddedAs (tallied part row [] count 0) (Ok q) row row' → AddedAs (tallied bs row [] count from) (Ok (from + q)) row row'
         unfolding moved_by
         moved-got told = adds_got row (tallied-same row count ∙ ap (moved_by from) (added_got row told))

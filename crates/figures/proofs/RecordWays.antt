@@ -10,13 +10,14 @@ use lib.Dec.{ltb, eqb}
 use Rattle.limits.specs.Sizes.{most_choices}
 use Rattle.reading.specs.Reading.{Reading, got, refusal, refuse◌at◌if◌else◌}
 use Rattle.reading.specs.Bytes.{big_endian}
-use Rattle.reading.specs.Answer.{reading_of, keeping}
-use Rattle.reading.specs.declared.Reading.{Reading as Answered}
-use Rattle.reading.specs.declared.Reading.TheVariants.{Refusal}
+use Rattle.reading.specs.Answer.{keeping, nothing}
+use Rattle.tallies.specs.InCode.{reading_of}
+use Rattle.std.proofs.Common.{Err}
+use Rattle.tallies.specs.declared.Refusal.{Refusal}
+use Rattle.tallies.specs.declared.Fault.TheVariants.{Layout}
 use Rattle.reading.proofs.Good.{Good, good, unless}
 use Rattle.reading.proofs.Keeping.{passed, failed-test}
 use Rattle.figures.specs.AnswerBook.{Symbols, rising, record_at}
-use Rattle.figures.specs.InCode.{count_of}
 
 -- k decision numbers from p on, the first of them for a choice
 module _ (bs : List ℕ) (least p choice : ℕ) (is : choice ≡ big_endian bs p / 2) where
@@ -99,13 +100,13 @@ module _ (bs : List ℕ) (version e p : ℕ) where
           by_tests n count n-is count-is ∙ passed 60 p (le-ltb e (p + 2) opened) ∙ passed 60 p (le-ltb e (p + 2 + n) whole) ∙ passed 60 p (le-ltb (p + 2 + n) (p + 2 * version + 2) h)
 
 -- the code's answers
-pub refused_as_lem : (r : Answered) {p : ℕ} {t : Reading Symbols} → r ≡ Refusal 60 p → t ≡ refusal 60 p → reading_of r ≡ keeping count_of t
+pub refused_as_lem : (r : Refusal) {p : ℕ} {t : Reading Symbols} → r ≡ record { fault = Layout; place = p } → t ≡ refusal 60 p → reading_of (Err r) ≡ keeping nothing t
 unfolding keeping
-refused_as_lem r answer told = ap reading_of answer ∙ sym (ap (keeping count_of) told)
+refused_as_lem r answer told = ap (λ (r : Refusal). reading_of (Err r)) answer ∙ sym (ap (keeping nothing) told)
 
-pub read_as : {t : Reading Symbols} (answer : Symbols) (end : ℕ) → t ≡ got answer end → got answer.count end ≡ keeping count_of t
+pub read_as : {t : Reading Symbols} (answer : Symbols) (end : ℕ) → t ≡ got answer end → got 0 end ≡ keeping nothing t
 unfolding keeping
-read_as answer end told = sym (ap (keeping count_of) told)
+read_as answer end told = sym (ap (keeping nothing) told)
 
 -- where a record's symbols stand, how many there are, and where it ends
 pub record Extent (bs : List ℕ) (version e p : ℕ) (answer : Symbols) (end : ℕ) : Type 0 where

@@ -7,7 +7,8 @@ use native.Mathlib.Omega.{arith}
 use borrow.Author.Tests.{lt-ltb, le-ltb, ltb-true, ltb-false}
 use lib.Dec.{ltb}
 use Rattle.reading.specs.Reading.{Reading, got, refusal, ◌then◌}
-use Rattle.reading.specs.declared.Reading.TheVariants.{Got, Refusal}
+use Rattle.std.proofs.Common.{Ok, Err}
+use Rattle.tallies.specs.declared.Refusal.{Refusal}
 use Rattle.reading.proofs.Good.{Good, good, good-got, each, then-good}
 use Rattle.reading.proofs.Keeping.{then-got, then-refusal}
 use Rattle.tallies.specs.Tallied.{how_many}
@@ -171,19 +172,19 @@ module _ (behind : ℕ → ℕ) (answers : ℕ → List (List ℕ)) where
 
     module _ {t : Reading (List ℕ)} {row : List ℕ} {from p : ℕ} {row' : List ℕ} (is : Ahead t row from p row') where
       -- none is
-      pub ahead_none : e ≤ p → AddedAs t (Got 0 p) row row'
+      pub ahead_none : e ≤ p → AddedAs t (Ok p) row row'
       ahead_none h = adds_got row (is.same ∙ repeated_none is.bound row' p h)
 
       module _ (here : p < e) (row'' : List ℕ) where
         -- the next is refused, and what was added before is taken back
-        pub ahead_refused : {c q : ℕ} (row''' : List ℕ) → AddedAs (one row' p) (Refusal c q) row' row'' → TakenBack row'' (over behind answers p p from) row''' → AddedAs t (Refusal c q) row row'''
-        ahead_refused row''' adds back =
-            let told = added_refusal row' adds in
+        pub ahead_refused : (r : Refusal) (row''' : List ℕ) → AddedAs (one row' p) (Err r) row' row'' → TakenBack row'' (over behind answers p p from) row''' → AddedAs t (Err r) row row'''
+        ahead_refused r row''' adds back =
+            let told = added_refusal row' r adds in
             let back' : TakenBack row' is.before row''' = rw (told.1, passed-all (is.passed p (omega arith)) (omega arith)) at back in
-            adds_refused row (is.same ∙ repeated_more is.bound row' p here is.enough ∙ then-refusal _ told.0) (there_and_back is.before row row' row''' is.added back')
+            adds_refused row r (is.same ∙ repeated_more is.bound row' p here is.enough ∙ then-refusal _ told.0) (there_and_back is.before row row' row''' is.added back')
 
         -- it is read
-        module _ (law : EachCounts) {v q : ℕ} (adds : AddedAs (one row' p) (Got v q) row' row'') where
+        module _ (law : EachCounts) {q : ℕ} (adds : AddedAs (one row' p) (Ok q) row' row'') where
           pub ahead_counts : Counts row' p row'' q
           ahead_counts = good-got (law row' p here) (added_got row' adds)
 

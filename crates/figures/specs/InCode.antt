@@ -1,18 +1,14 @@
 -- What the code of the figures answers, and what it leaves of the totals, in the words of the definitions.
-use Rattle.std.specs.Prelude.{true, false, List, [], ◌++◌, ℕ, zero, suc, ◌+◌, ◌*◌, ltb, get_or}
+use Rattle.std.specs.Prelude.{true, false, List, [], ◌++◌, ℕ, zero, suc, ◌+◌, ◌*◌, ltb, get_or, Result, Ok, Err}
 use Rattle.reading.specs.Bytes.{big_endian}
-use Rattle.figures.specs.AnswerBook.{Symbols}
 use Rattle.figures.specs.Figures.{book_end, Outcome}
-use Rattle.tallies.specs.InCode.{answer_over}
-use Rattle.figures.specs.declared.Figured.{Figured}
-
--- of a record the code keeps how many symbols it has
-abbrev pub count_of : Symbols → ℕ
-count_of x = x.count
+use Rattle.tallies.specs.declared.Refusal.{Refusal}
+use Rattle.tallies.specs.InCode.{number_of, answer_over}
 
 -- what is handed back, and the row after it
-abbrev pub after : Figured → List ℕ → Outcome
-after r row = record { number = r.number; place = r.place; row = row }
+abbrev pub after : Result (Unit {0}) Refusal → List ℕ → Outcome
+after (Ok done) row = record { number = 0; place = 0; row = row }
+after (Err r) row = record { number = number_of r.fault; place = r.place; row = row }
 
 -- ---- what is taken back
 

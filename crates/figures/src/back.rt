@@ -5,7 +5,7 @@ ghost use Rattle.figures.specs.Figures.{book_end};
 ghost use Rattle.tallies.specs.InCode.{TakenBack};
 ghost use Rattle.figures.specs.InCode.{behind_record, record_over, records_over, book_over, books_over};
 
-use reading::{byte, number, part_of};
+use reading::{number, part_of, wide_byte};
 use tallies::take_back;
 
 // The record at p: the place behind it.
@@ -20,7 +20,7 @@ fn record_back(books: &[u8], version: usize, p: usize, totals: &mut [u32]) -> us
     p + 2 + number(books, p)
 }
 
-// The records from p to e.
+// The records from p to e. Each says where the next one stands, so the loop is no `for`, here and in `books_back`.
 pub(crate) fn records_back(books: &[u8], version: usize, e: usize, from: usize, totals: &mut [u32])
     requires { (e ≤ 10000000000000000000) × (version ≤ 255) }
     ensures { TakenBack totals.old (records_over books.now version e from) totals.new }
@@ -37,7 +37,7 @@ fn book_back(books: &[u8], p: usize, totals: &mut [u32]) -> usize
     ensures { (result ≡ book_end books.now p) × TakenBack totals.old (book_over books.now p) totals.new }
 {
     let e = p + 4 + (number(books, p) * 65536 + number(books, p + 2));
-    records_back(books, byte(books, p + 4) as usize, e, p + 5, totals);
+    records_back(books, wide_byte(books, p + 4), e, p + 5, totals);
     e
 }
 
@@ -46,7 +46,7 @@ pub(crate) fn books_back(books: &[u8], e: usize, totals: &mut [u32])
     requires { e ≤ length books.now }
     ensures { TakenBack totals.old (books_over books.now e) totals.new }
 {
-    let mut p: usize = 0;
+    let mut p = 0;
     while p < e {
         p = book_back(books, p, totals);
     }

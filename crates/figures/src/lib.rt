@@ -10,24 +10,12 @@ mod back;
 mod record;
 
 use adding::add_books;
-use reading::Reading;
-
-// What is handed back: 0, or the number of the refusal and the place at which it was met.
-#[derive(Clone, Copy)]
-pub struct Figured {
-    pub number: u8,
-    pub place: usize,
-}
+pub use tallies::{Fault, Refusal};
 
 // Adds the figures of all books to the totals. A refusal leaves the totals as they were.
-pub fn add_figures(books: &[u8], totals: &mut [u32]) -> Figured
+pub fn add_figures(books: &[u8], totals: &mut [u32]) -> Result<(), Refusal>
     ensures { after result totals.new ≡ figures books.now totals.old }
 {
-    match add_books(books, totals) {
-        Reading::Refusal { number, place } => Figured { number, place },
-        Reading::Got { value: _, next: _ } => Figured {
-            number: 0,
-            place: 0,
-        },
-    }
+    add_books(books, totals)?;
+    Ok(())
 }

@@ -6,7 +6,7 @@ use Prim.Native.Nat.{ℕ, zero, suc, ◌+◌, ◌-◌, ◌*◌, ◌≤◌, ◌<�
 use native.Mathlib.Decide.{ℕ_discrete}
 use native.Mathlib.Omega.{arith}
 use lib.ListN.{length, get_or, set, length-set}
-use lib.Seq.{get_or-set_same, get_or-set_other, set-get_or, set_out, ext_get_or}
+use lib.Seq.{get_or-set_same, get_or-set_other, set_out, ext_get_or}
 use Rattle.reading.specs.Bytes.{big_endian}
 use Rattle.book.specs.TreeAt.{is_in}
 use Rattle.tallies.specs.Tallied.{how_many, symbols_at}
@@ -136,15 +136,9 @@ module _ (bs : List ℕ) where
   unfolding symbols_at how_many is_in
   none_added row from = record { long = refl; total = λ f h. omega arith }
 
--- one less of a total that is there, of one that is none, and past the row
-module _ (row : List ℕ) (f : ℕ) where
-  pub less_none : (total : ℕ) → total ≡ get_or row f 0 → total ≡ 0 → Lessened f row row
-  less_none total is none =
-      let same : get_or row f 0 - 1 ≡ get_or row f 0 = omega (arith, is) in
-      sym (rw same (set-get_or row f 0))
-
-  pub less-past : length row ≤ f → Lessened f row row
-  less-past h = sym (set_out row f _ h)
+-- there is no total past the row
+pub less-past : (row : List ℕ) (f : ℕ) → length row ≤ f → Lessened f row row
+less-past row f h = sym (set_out row f _ h)
 
 -- ---- there and back
 

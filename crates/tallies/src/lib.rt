@@ -4,26 +4,75 @@
 ghost use Rattle.std.specs.Prelude.{[], ◌≡◌};
 ghost use Rattle.book.specs.TreeAt.{is_in};
 ghost use Rattle.tallies.specs.Tallied.{tallied, symbols_at};
-ghost use Rattle.tallies.specs.InCode.{AddedAs, Lessened, TakenBack, answer_over};
+ghost use Rattle.tallies.specs.InCode.{number_of, AddedAs, Grown, Lessened, TakenBack, answer_over};
 
-use reading::{Reading, number};
+use reading::number;
+use std::fmt;
 
-// The largest total that 32 bits hold.
-const MOST_TOTAL: u32 = 4294967295;
+// What is refused of an answer book, by its number.
+#[derive(Clone, Copy, Debug, PartialEq, Eq)]
+pub enum Fault {
+    // A book cut short or not in the layout.
+    Layout = 60,
+    // A symbol past the row.
+    PastRow = 61,
+    // A total past 32 bits.
+    PastBits = 62,
+}
+
+// A refusal: what is at fault, and where.
+#[derive(Clone, Copy, Debug, PartialEq, Eq)]
+pub struct Refusal {
+    pub fault: Fault,
+    pub place: usize,
+}
+
+impl Fault {
+    pub fn number(self) -> u8
+        ensures { result ≡ number_of self }
+    {
+        self as u8
+    }
+
+    // The refusal at a place.
+    pub fn at(self, place: usize) -> Refusal
+        ensures { result ≡ record { fault = self; place = place } }
+    {
+        Refusal { fault: self, place }
+    }
+}
+
+impl fmt::Display for Refusal {
+    fn fmt<W: fmt::Write>(&self, f: &mut fmt::Formatter<W>) -> fmt::Result {
+        write!(f, "{} {}", self.fault.number(), self.place)
+    }
+}
 
 // Whether symbol f is one of the first k. The last is looked at first: in an answer of n symbols, d of them different, all these searches together take
 // at most 2 * d * n steps, since a symbol is found where it stood last.
 fn stands(symbols: &[u8], f: usize, k: u16) -> bool
     ensures { result ≡ is_in f (symbols_at symbols.now k 0) }
 {
-    let mut i = k;
-    while 0 < i {
-        i -= 1;
-        if number(symbols, 2 * (i as usize)) == f {
+    for i in (0..k).rev() {
+        if number(symbols, 2 * usize::from(i)) == f {
             return true;
         }
     }
     false
+}
+
+// One more of a total, where there is one that can grow.
+fn one_more(f: usize, totals: &mut [u32]) -> Result<(), Fault>
+    ensures { Grown f totals.old result totals.new }
+{
+    if totals.len() <= f {
+        return Err(Fault::PastRow);
+    }
+    if totals[f] == u32::MAX {
+        return Err(Fault::PastBits);
+    }
+    totals[f] += 1;
+    Ok(())
 }
 
 // One less of a total, where there is one.
@@ -31,10 +80,7 @@ fn one_less(f: usize, totals: &mut [u32])
     ensures { Lessened f totals.old totals.new }
 {
     if f < totals.len() {
-        let total = totals[f];
-        if 0 < total {
-            totals[f] = total - 1;
-        }
+        totals[f] = totals[f].saturating_sub(1);
     }
 }
 
@@ -42,46 +88,27 @@ fn one_less(f: usize, totals: &mut [u32])
 pub fn take_back(symbols: &[u8], count: u16, totals: &mut [u32])
     ensures { TakenBack totals.old (answer_over symbols.now count 0) totals.new }
 {
-    let mut p: usize = 0;
-    let mut i: u16 = 0;
-    while i < count {
-        let f = number(symbols, p);
+    for i in 0..count {
+        let f = number(symbols, 2 * usize::from(i));
         if !stands(symbols, f, i) {
             one_less(f, totals);
         }
-        p += 2;
-        i += 1;
     }
 }
 
-// Adds an answer's symbols, `count` of them, to the totals. A symbol counts once in an answer.
-pub fn tally(symbols: &[u8], count: u16, totals: &mut [u32]) -> Reading
+// Adds an answer's symbols, `count` of them, to the totals: the place behind them. A symbol counts once in an answer. A refusal leaves the totals as they were.
+pub fn tally(symbols: &[u8], count: u16, totals: &mut [u32]) -> Result<usize, Refusal>
     ensures { AddedAs (tallied symbols.now totals.old [] count 0) result totals.old totals.new }
 {
-    let mut p: usize = 0;
-    let mut i: u16 = 0;
-    while i < count {
+    for i in 0..count {
+        let p = 2 * usize::from(i);
         let f = number(symbols, p);
         if !stands(symbols, f, i) {
-            if totals.len() <= f {
+            if let Err(fault) = one_more(f, totals) {
                 take_back(symbols, i, totals);
-                return Reading::Refusal {
-                    number: 61,
-                    place: p,
-                };
+                return Err(fault.at(p));
             }
-            let total = totals[f];
-            if MOST_TOTAL <= total {
-                take_back(symbols, i, totals);
-                return Reading::Refusal {
-                    number: 62,
-                    place: p,
-                };
-            }
-            totals[f] = total + 1;
         }
-        p += 2;
-        i += 1;
     }
-    Reading::Got { value: 0, next: p }
+    Ok(2 * usize::from(count))
 }

@@ -14,21 +14,21 @@ loop-p-init c =
     let books = a.books.now in
     ahead_all (book_end books) (book_over books) (length books) (book_at books) (length books) a.totals.now 0 (omega arith) (omega arith) (books_repeated books (length books) a.totals.now 0)
 
-pub returns-in-Refusal : goal.returns-in-Refusal
-returns-in-Refusal c =
+pub returns-in-Err : goal.returns-in-Err
+returns-in-Err c =
     let loop = c.loop-p in
     let books = c.args.books.now in
-    ahead_refused (book_end books) (book_over books) (length books) (book_at books) loop.invariant c.loop-p-test.true _ _
-    (rw c.in-Refusal.is at c.add_book.ensures) c.books_back.ensures
+    ahead_refused (book_end books) (book_over books) (length books) (book_at books) loop.invariant c.loop-p-test.true _ c.in-Err.r _
+    c.in-Err.ensures c.books_back.ensures
 
 -- reading goes on behind where it was
 pub loop-p-smaller : goal.loop-p-smaller
 loop-p-smaller c =
     let loop = c.loop-p in
     let books = c.args.books.now in
-    let onward : loop.p < c.in-Got.next =
+    let onward : loop.p < c.in-Ok.next =
     (ahead_counts (book_end books) (book_over books) (length books) (book_at books) loop.invariant c.loop-p-test.true _ (book-counts books)
-    (rw c.in-Got.is at c.add_book.ensures)).onward in
+    c.in-Ok.ensures).onward in
     omega arith
 
 pub loop-p-preserved : goal.loop-p-preserved
@@ -36,7 +36,7 @@ loop-p-preserved c =
     let loop = c.loop-p in
     let books = c.args.books.now in
     ahead_more (book_end books) (book_over books) (length books) (book_at books) loop.invariant c.loop-p-test.true _ (book-counts books)
-    (rw c.in-Got.is at c.add_book.ensures)
+    c.in-Ok.ensures
 
 pub shape_of-totals : goal.shape_of-totals
 shape_of-totals c = c.loop-p.invariant.added.long

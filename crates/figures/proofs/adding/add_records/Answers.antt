@@ -15,13 +15,13 @@ loop-p-init c =
     ahead_all (behind_record books) (record_over books a.version) a.e (answer_at books a.version a.e) (length books) a.totals.now a.from (omega arith) (omega arith)
     (records_repeated books a.version a.e (length books) a.totals.now a.from)
 
-pub returns-in-Refusal : goal.returns-in-Refusal
-returns-in-Refusal c =
+pub returns-in-Err : goal.returns-in-Err
+returns-in-Err c =
     let loop = c.loop-p in
     let a = c.args in
     let books = a.books.now in
-    ahead_refused (behind_record books) (record_over books a.version) a.e (answer_at books a.version a.e) loop.invariant c.loop-p-test.true _ _
-    (rw c.in-Refusal.is at c.add_record.ensures) c.records_back.ensures
+    ahead_refused (behind_record books) (record_over books a.version) a.e (answer_at books a.version a.e) loop.invariant c.loop-p-test.true _ c.in-Err.r _
+    c.in-Err.ensures c.records_back.ensures
 
 -- reading goes on behind where it was
 pub loop-p-smaller : goal.loop-p-smaller
@@ -29,9 +29,9 @@ loop-p-smaller c =
     let loop = c.loop-p in
     let a = c.args in
     let books = a.books.now in
-    let onward : loop.p < c.in-Got.next =
+    let onward : loop.p < c.in-Ok.next =
     (ahead_counts (behind_record books) (record_over books a.version) a.e (answer_at books a.version a.e) loop.invariant c.loop-p-test.true _
-    (answer_counts books a.version a.e) (rw c.in-Got.is at c.add_record.ensures)).onward in
+    (answer_counts books a.version a.e) c.in-Ok.ensures).onward in
     omega arith
 
 pub loop-p-preserved : goal.loop-p-preserved
@@ -40,7 +40,7 @@ loop-p-preserved c =
     let a = c.args in
     let books = a.books.now in
     ahead_more (behind_record books) (record_over books a.version) a.e (answer_at books a.version a.e) loop.invariant c.loop-p-test.true _
-    (answer_counts books a.version a.e) (rw c.in-Got.is at c.add_record.ensures)
+    (answer_counts books a.version a.e) c.in-Ok.ensures
 
 pub shape_of-totals : goal.shape_of-totals
 shape_of-totals c = c.loop-p.invariant.added.long

@@ -1,37 +1,35 @@
 -- `add_symbols` meets its contract: the symbols, then the decisions, for which the symbols are taken back if they do not rise.
-use mathlib.Core.Path.{sym, ◌∙◌}
-use native.Mathlib.Omega.{arith}
+use Rattle.std.proofs.Common.{sym, ◌∙◌, arith}
 use Rattle.figures.proofs.Moved.{refused-before, moved-refused, moved-got, moved_back}
 use Rattle.figures.proofs.BookWays.{symbols-refused, decisions_rise, decisions_fall}
 use Rattle.figures.proofs.adding.add_symbols.Goals as goal
 
-pub overflow_add-result : goal.overflow_add-result
-overflow_add-result c =
+pub overflow_add-from : goal.overflow_add-from
+overflow_add-from c =
     let a = c.args in
-    let part = c.part_of-symbols in
-    let near = refused-before part.result.now a.totals.now a.count (rw c.in-Refusal.is at c.tally.ensures) in
+    let near = refused-before c.part_of-symbols.result.now a.totals.now a.count c.in-Err.r c.in-Err.ensures in
     record { fits = omega (arith, near) }
 
-pub returns-in-Refusal : goal.returns-in-Refusal
-returns-in-Refusal c =
+pub returns-in-Err : goal.returns-in-Err
+returns-in-Err c =
     let a = c.args in
     let part = c.part_of-symbols in
-    symbols-refused a.books.now a.totals.now a.count a.from a.p a.end
-    (moved-refused a.books.now a.from part.result.now part.ensures a.totals.now a.count (rw c.in-Refusal.is at c.tally.ensures))
+    rw c.at.ensures (symbols-refused a.books.now a.totals.now a.count a.from a.p a.end _
+    (moved-refused a.books.now a.from part.result.now part.ensures a.totals.now a.count c.in-Err.r c.in-Err.ensures))
 
-pub returns-then-rising : goal.returns-then-rising
-returns-then-rising c =
-    let a = c.args in
-    let part = c.part_of-symbols in
-    decisions_rise a.books.now a.totals.now a.count a.from a.p a.end
-    (moved-got a.books.now a.from part.result.now part.ensures a.totals.now a.count (rw c.in-Got.is at c.tally.ensures))
-    (sym c.rising.ensures ∙ c.if-rising.true)
-
-pub returns-else-rising : goal.returns-else-rising
-returns-else-rising c =
+pub returns-then-not-rising : goal.returns-then-not-rising
+returns-then-not-rising c =
     let a = c.args in
     let part = c.part_of-symbols in
     decisions_fall a.books.now a.totals.now a.count a.from a.p a.end
-    (moved-got a.books.now a.from part.result.now part.ensures a.totals.now a.count (rw c.in-Got.is at c.tally.ensures))
-    (sym c.rising.ensures ∙ c.if-rising.false) _ (moved_back a.books.now a.from part.result.now part.ensures a.count c.take_back.ensures)
-    c.refused.result c.refused.ensures
+    (moved-got a.books.now a.from part.result.now part.ensures a.totals.now a.count c.in_default.ensures)
+    (sym c.rising.ensures ∙ c.if-not-rising.true) _ (moved_back a.books.now a.from part.result.now part.ensures a.count c.take_back.ensures)
+    c.at-then-not-rising.result c.at-then-not-rising.ensures
+
+pub returns : goal.returns
+returns c =
+    let a = c.args in
+    let part = c.part_of-symbols in
+    decisions_rise a.books.now a.totals.now a.count a.from a.p a.end
+    (moved-got a.books.now a.from part.result.now part.ensures a.totals.now a.count c.in_default.ensures)
+    (sym c.rising.ensures ∙ c.if-not-rising.false)

@@ -12,4 +12,4 @@ returns c =
     let high = c in
     let p = c.args.p in
     let end = ap₂ (λ (high low : ℕ). p + 4 + (high * 65536 + low)) c.number.ensures.0 c.number-2.ensures.0 in
-    (end, rw (← end, ← c.byte.ensures) c.records_back.ensures)
+    (end, rw (← end, ← c.wide_byte.ensures.0) c.records_back.ensures)
