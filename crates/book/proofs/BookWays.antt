@@ -4,7 +4,7 @@ use mathlib.Core.Path.{◌≡◌, refl, sym, ap, ap₂, ◌∙◌}
 use Prim.Native.Nat.{ℕ, zero, suc, ◌+◌, ◌-◌, ◌≤◌, ◌<◌}
 use native.Mathlib.Decide.{dec_lt}
 use native.Mathlib.Omega.{arith}
-use lib.ListN.{length, take, replicate, length-append, length-replicate}
+use lib.ListN.{length, length-take, take, replicate, length-append, length-replicate}
 use lib.Seq.{take_at}
 use Rattle.limits.specs.Sizes.{most_book_bytes, most_symbols}
 use Rattle.reading.specs.Reading.{Reading, got, refusal}
@@ -20,7 +20,8 @@ use Rattle.book.specs.Rules.{Rules}
 use Rattle.book.specs.TreeAt.{tree_part}
 use Rattle.book.specs.Admission.{read_book}
 use Rattle.book.specs.Index.{roots_from, ends_from, symbols_bytes, trees_place, at_after, info_after, ends_after}
-use Rattle.book.specs.Reader.{Chained, FewArguments, Indexed}
+use Rattle.book.specs.Reader.{Indexed}
+use Rattle.book.specs.Tabled.{Chained, FewArguments, Tabled}
 use Rattle.book.proofs.PartWays.{indexed_read}
 
 -- symbols that were read take the bytes that they take
@@ -68,7 +69,7 @@ pub record SymbolsKept (bs : List ℕ) (count p : ℕ) (places ranks nexts first
 
 pub symbols-kept : (bs : List ℕ) {count p : ℕ} (places ranks nexts firsts : List ℕ) → got count p ≡ keeping length (symbol_part bs) → places ≡ places_after (symbol_part bs)
     → ranks ≡ ranks_after (symbol_part bs) → nexts ≡ nexts_after (symbol_part bs) → firsts ≡ firsts_after (symbol_part bs) → SymbolsKept bs count p places ranks nexts firsts
-unfolding places_after ranks_after nexts_after firsts_after in_array FewArguments
+unfolding places_after ranks_after nexts_after firsts_after in_array
 symbols-kept bs {count} {p} places ranks nexts firsts told at-is ranks-are nexts-are firsts-are =
     let s = kept-got length (symbol_part bs) told in
     by s.0 s.1 s.2
@@ -93,6 +94,14 @@ symbols-kept bs {count} {p} places ranks nexts firsts told at-is ranks-are nexts
           few_arguments = λ f h. (read.in_range f).few_arguments;
           size = read.size;
         }
+
+-- they make a table
+pub tabled : {bs : List ℕ} {count p : ℕ} {places ranks nexts firsts : List ℕ} → SymbolsKept bs count p places ranks nexts firsts
+    → Tabled bs (take count places) nexts firsts
+tabled known = record {
+  few = simp length-take (omega (arith, known.few, known.long));
+  chained = rw known.means known.chained;
+}
 
 -- ---- the ways
 

@@ -1,16 +1,20 @@
 -- What the reader of trees asks, and what it answers: the reading of the definition (TreeAt.antt) without its trees, and their ends marked.
-use Rattle.std.specs.Prelude.{false, List, ◌++◌, ◌≡◌, ℕ, ◌+◌, ◌≤◌, length, get_or, Result, IfOk}
-use Rattle.limits.specs.Sizes.{most_symbols}
+use Rattle.std.specs.Prelude.{false, List, ◌++◌, ◌≡◌, ℕ, ◌+◌, get_or, Result, IfOk}
 use Rattle.reading.specs.Reading.{Reading}
 use Rattle.reading.specs.Answer.{reading_by, keeping, nothing}
 use Rattle.reading.specs.declared.Refusal.{Refusal}
-use Rattle.symbols.specs.Symbols.{constructors_of}
+use Rattle.symbols.specs.Symbols.{Symbols, constructors_of}
 use Rattle.symbols.specs.Table.{symbols_in, symbol_in}
 use Rattle.book.specs.Trees.{Tree, Trees}
 use Rattle.book.specs.TreeAt.{binds_past, trees_with, tree_in, item_at, trees_of, tree_part}
-use Rattle.book.specs.Reader.{Chained, vars_of, Branched, Marked, MarkedRow, Indexed, behind_of}
+use Rattle.book.specs.Reader.{vars_of, Branched, Marked, MarkedRow, Indexed, behind_of}
 use Rattle.book.specs.declared.path.Path.{Path}
+use Rattle.book.specs.declared.table.Table.{Table}
 use Rattle.book.specs.declared.trees.TreePart.{TreePart}
+
+-- the symbols that a table means
+abbrev pub symbols_of : Table → Symbols
+symbols_of table = symbols_in table.book.now table.at.now
 
 -- what a reader of trees answers: the place behind them
 abbrev pub Answered : Type 0
@@ -18,14 +22,9 @@ Answered = Result ℕ Refusal
 
 -- ---- what is asked
 
--- the symbols that the table of places means, no more than a book can have, with the constructors of each sort chained
-pub record Tabled (bs at next first : List ℕ) : Type 0 where
-  pub few : length at ≤ most_symbols
-  pub chained : Chained (symbols_in bs at) next first
-
 -- no constructor of the branch's sort binds past the last variable
-abbrev pub CasesFit : List ℕ → List ℕ → Path → ℕ → Type 0
-CasesFit bs at path branch = binds_past path.bound (constructors_of branch (symbols_in bs at)) ≡ false
+abbrev pub CasesFit : Table → Path → ℕ → Type 0
+CasesFit table path branch = binds_past path.bound (constructors_of branch (symbols_of table)) ≡ false
 
 -- ---- what is answered
 
@@ -37,32 +36,32 @@ ReadAs p t r was is = (behind_of r ≡ keeping nothing t) × Marked p t was is
 abbrev pub RowReadAs : ℕ → Reading Trees → Answered → List ℕ → List ℕ → Type 0
 RowReadAs p ts r was is = (behind_of r ≡ keeping nothing ts) × MarkedRow p ts was is
 
-module _ (bs at : List ℕ) where
+module _ (table : Table) where
   -- a tree at p of an operation of result sort `sort`, in an item that ends at e, whatever was branched on as the path's flags say
   abbrev pub TreeRead : ℕ → ℕ → ℕ → Path → ℕ → Answered → List ℕ → List ℕ → Type 0
   TreeRead sort e depth path p r was is =
-      (done : List ℕ) → Branched path done → ReadAs p (tree_in bs (symbols_in bs at) sort e depth (vars_of path) done p) r was is
+      (done : List ℕ) → Branched path done → ReadAs p (tree_in table.book.now (symbols_of table) sort e depth (vars_of path) done p) r was is
 
   -- one tree for each constructor of the branch's sort, from p on
   abbrev pub CasesRead : ℕ → ℕ → ℕ → Path → ℕ → ℕ → Answered → List ℕ → List ℕ → Type 0
   CasesRead sort e depth path branch p r was is =
       (done : List ℕ) → Branched path done
       → RowReadAs p
-      (trees_with bs (symbols_in bs at) sort e (λ (sorts : List ℕ) (q : ℕ). tree_in bs (symbols_in bs at) sort e depth (vars_of path ++ sorts) done q)
-      (constructors_of branch (symbols_in bs at)) p) r was is
+      (trees_with table.book.now (symbols_of table) sort e (λ (sorts : List ℕ) (q : ℕ). tree_in table.book.now (symbols_of table) sort e depth (vars_of path ++ sorts) done q)
+      (constructors_of branch (symbols_of table)) p) r was is
 
   -- the tree of operation f, opened by its length at p, in a part that ends at e
   abbrev pub ItemRead : ℕ → ℕ → ℕ → Answered → List ℕ → List ℕ → Type 0
-  ItemRead e f p r was is = ReadAs (p + 2) (item_at bs (symbols_in bs at) e (symbol_in bs (get_or at f 0)) p) r was is
+  ItemRead e f p r was is = ReadAs (p + 2) (item_at table.book.now (symbols_of table) e (symbol_in table.book.now (get_or table.at.now f 0)) p) r was is
 
   -- the trees of the operations, the first of them opened at p, with where each stands: info and ends before, info' and ends' after
   abbrev pub TreesRead : ℕ → ℕ → Answered → List ℕ → List ℕ → List ℕ → List ℕ → Type 0
   TreesRead e p r info info' ends ends' =
-      (behind_of r ≡ keeping nothing (trees_of bs (symbols_in bs at) e (symbols_in bs at) p))
-      × Indexed p 0 (symbols_in bs at) (trees_of bs (symbols_in bs at) e (symbols_in bs at) p) info info' ends ends'
+      (behind_of r ≡ keeping nothing (trees_of table.book.now (symbols_of table) e (symbols_of table) p))
+      × Indexed p 0 (symbols_of table) (trees_of table.book.now (symbols_of table) e (symbols_of table) p) info info' ends ends'
 
   -- the tree part, opened at p, with nothing left over, and its index over `info` and `ends`
   abbrev pub PartRead : ℕ → Result TreePart Refusal → List ℕ → List ℕ → Type 0
   PartRead p r info ends =
-      (reading_by (λ (part : TreePart). (0, part.next)) r ≡ keeping nothing (tree_part bs (symbols_in bs at) p))
-      × IfOk r (λ (part : TreePart). Indexed (p + 2) 0 (symbols_in bs at) (tree_part bs (symbols_in bs at) p) info part.info ends part.ends)
+      (reading_by (λ (part : TreePart). (0, part.next)) r ≡ keeping nothing (tree_part table.book.now (symbols_of table) p))
+      × IfOk r (λ (part : TreePart). Indexed (p + 2) 0 (symbols_of table) (tree_part table.book.now (symbols_of table) p) info part.info ends part.ends)

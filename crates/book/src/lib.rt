@@ -11,11 +11,13 @@ ghost use Rattle.book.specs.Index.{at_after, info_after, ends_after};
 ghost use Rattle.book.specs.RowsRead.{rows_read};
 
 mod path;
+mod table;
 mod trees;
 
 use limits::Limits;
 use reading::Refusal;
 use symbol_part::{read_symbol_part, symbols_read};
+use table::Table;
 use trees::{read_tree_part, trees_read};
 
 // A book that was read: how many symbols it has, the place behind it, and its index. `at` has the place of each symbol; `info` an
@@ -35,14 +37,12 @@ pub fn read_book(book: &[u8]) -> Result<BookIndex, Refusal>
     ensures index { IfOk result (λ (index : BookIndex). (index.at ≡ at_after (read_book book.now)) × (index.info ≡ info_after (read_book book.now)) × (index.ends ≡ ends_after (read_book book.now))) }
 {
     let symbols = read_symbol_part(book)?;
-    let trees = read_tree_part(
+    let table = Table {
         book,
-        &symbols.at[..symbols.count],
-        &symbols.chain.next,
-        &symbols.chain.first,
-        symbols.next,
-        symbols.ranks,
-    )?;
+        at: &symbols.at[..symbols.count],
+        chain: &symbols.chain,
+    };
+    let trees = read_tree_part(table, symbols.next, symbols.ranks)?;
     let at = symbols.at;
     let info = trees.info;
     let ends = trees.ends;
@@ -61,9 +61,12 @@ pub fn rows_read(book: &[u8]) -> usize
 {
     match read_symbol_part(book) {
         Ok(symbols) => {
-            let at = &symbols.at[..symbols.count];
-            let chain = &symbols.chain;
-            symbols.count + trees_read(book, at, &chain.next, &chain.first, symbols.next)
+            let table = Table {
+                book,
+                at: &symbols.at[..symbols.count],
+                chain: &symbols.chain,
+            };
+            symbols.count + trees_read(table, symbols.next)
         }
         Err(_) => symbols_read(book),
     }

@@ -1,7 +1,6 @@
 // The variables bound on a path of a tree.
 ghost use Rattle.std.specs.Prelude.{true, false, ◌++◌, ◌≡◌, ◌+◌, ◌<◌, ◌≤◌, length, replicate, set};
 ghost use Rattle.limits.specs.Sizes.{most_variables};
-ghost use Rattle.book.specs.Reader.{vars_of};
 
 use limits::Limits;
 
@@ -11,9 +10,12 @@ pub struct Path {
     pub sorts: [u8; Limits::VARIABLES],
     pub bound: usize,
     pub done: [bool; Limits::VARIABLES],
+    ghost in_range: { bound ≤ most_variables },
 }
 
 impl Path {
+    ghost use Rattle.book.specs.Reader.{vars_of};
+
     pub(crate) fn empty() -> Path
         ensures { (result.bound ≡ 0) × (result.done ≡ replicate most_variables false) }
     {

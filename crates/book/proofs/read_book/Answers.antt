@@ -2,10 +2,9 @@
 use mathlib.Core.Path.{ap, ◌∙◌}
 use Prim.Native.Nat.{ℕ}
 use native.Mathlib.Omega.{arith}
-use lib.ListN.{length-take}
 use Rattle.reading.proofs.Exits.{handed_on}
 use Rattle.reading.specs.Reading.{got}
-use Rattle.book.proofs.BookWays.{SymbolsKept, symbols-kept, symbols-refused, trees-refused, book-read}
+use Rattle.book.proofs.BookWays.{SymbolsKept, tabled, symbols-kept, symbols-refused, trees-refused, book-read}
 use Rattle.book.proofs.read_book.Goals as goal
 use Rattle.book.proofs.read_book.Goals.{In_ok-symbols}
 
@@ -21,18 +20,15 @@ pub returns-in_err-symbols : goal.returns-in_err-symbols
 returns-in_err-symbols c =
     rw (handed_on _ c.from_residual.ensures.1) (record { reading = symbols-refused c.args.book.now c.in_err-symbols.ensures.reading; index = tt })
 
-pub shared_ref_as_front-read_tree_part : goal.shared_ref_as_front-read_tree_part
-shared_ref_as_front-read_tree_part c =
-    let known = kept (goal.at.shared_ref_as_front-read_tree_part c).In_ok-symbols in
+pub shared_ref_as_front-table : goal.shared_ref_as_front-table
+shared_ref_as_front-table c =
+    let known = kept (goal.at.shared_ref_as_front-table c).In_ok-symbols in
     omega (arith, known.few, known.long)
 
-pub read_tree_part-requires : goal.read_tree_part-requires
-read_tree_part-requires c =
-    let known = kept (goal.at.read_tree_part-requires c).In_ok-symbols in (
-      known.size,
-      record { few = simp length-take (omega (arith, known.few, known.long)); chained = rw known.means known.chained },
-      rw known.means known.few_arguments,
-    )
+pub invariant_of-table : goal.invariant_of-table
+invariant_of-table c =
+    let known = kept (goal.at.invariant_of-table c).In_ok-symbols in
+    record { small = known.size; tabled = tabled known; few_arguments = rw known.means known.few_arguments }
 
 pub returns-in_err-trees : goal.returns-in_err-trees
 returns-in_err-trees c =

@@ -1,7 +1,6 @@
 -- `rows_read` meets its contract: where a symbol is at fault the symbols are counted, else all of them and then the trees.
 use native.Mathlib.Omega.{arith}
-use lib.ListN.{length-take}
-use Rattle.book.proofs.BookWays.{SymbolsKept, symbols-kept}
+use Rattle.book.proofs.BookWays.{SymbolsKept, tabled, symbols-kept}
 use Rattle.book.proofs.CountWays.{symbols-counted, trees-counted}
 use Rattle.book.proofs.rows_read.Goals as goal
 use Rattle.book.proofs.rows_read.Goals.{In-Ok}
@@ -14,18 +13,15 @@ kept c =
     let told = c.in-Ok.ensures in
     symbols-kept c.args.book.now _ _ _ _ told.reading told.arrays.0 told.arrays.1 told.arrays.2 told.arrays.3
 
-pub shared_ref_as_front-at : goal.shared_ref_as_front-at
-shared_ref_as_front-at c =
-    let known = kept (goal.at.shared_ref_as_front-at c).In-Ok in
+pub shared_ref_as_front-table : goal.shared_ref_as_front-table
+shared_ref_as_front-table c =
+    let known = kept (goal.at.shared_ref_as_front-table c).In-Ok in
     omega (arith, known.few, known.long)
 
-pub trees_read-requires : goal.trees_read-requires
-trees_read-requires c =
-    let known = kept (goal.at.trees_read-requires c).In-Ok in (
-      known.size,
-      record { few = simp length-take (omega (arith, known.few, known.long)); chained = rw known.means known.chained },
-      rw known.means known.few_arguments,
-    )
+pub invariant_of-table : goal.invariant_of-table
+invariant_of-table c =
+    let known = kept (goal.at.invariant_of-table c).In-Ok in
+    record { small = known.size; tabled = tabled known; few_arguments = rw known.means known.few_arguments }
 
 pub overflow_add-result : goal.overflow_add-result
 overflow_add-result c =

@@ -32,28 +32,27 @@ use Rattle.book.proofs.trees.+read_cases_read_tree.Goals.{read_cases-After-next_
 pub read_cases-loop-f-init : goal.read_cases-loop-f-init
 read_cases-loop-f-init t c =
     let a = c.args in
-    let to = rw (sym c.first_of-f.ensures) at (chain_first a.book.now a.at.now a.branch c.requires.3.chained (omega arith)) in (
+    let to = rw (sym c.first_of-f.ensures) at (chain_first a.table.book.now a.table.at.now a.branch c.args.table.tabled.chained (omega arith)) in (
       to.on,
-      ap (binds_past a.path.bound) to.same ∙ c.requires.4,
-      λ done flags. cases-first a.book.now a.at.now a.sort a.e a.depth (vars_of a.path) done a.branch a.from a.ends.now to,
+      ap (binds_past a.path.bound) to.same ∙ c.requires.1,
+      λ done flags. cases-first a.table.book.now a.table.at.now a.sort a.e a.depth (vars_of a.path) done a.branch a.from a.ends.now to,
     )
 
 -- a case binds no more variables than there are
 read-cases-fits : (t : ℕ) (c : read_cases-In-loop-f t)
     → let a = c.args in
-    a.path.bound + length (symbol_in a.book.now (get_or a.at.now c.loop-f.f 0)).arguments ≤ most_variables
+    a.path.bound + length (symbol_in a.table.book.now (get_or a.table.at.now c.loop-f.f 0)).arguments ≤ most_variables
 read-cases-fits t c =
     let l = c.loop-f in
     let a = c.args in
-    case-fits a.book.now a.at.now a.path.bound a.branch l.f c.loop-f-test.true l.invariant.0 l.invariant.1
+    case-fits a.table.book.now a.table.at.now a.path.bound a.branch l.f c.loop-f-test.true l.invariant.0 l.invariant.1
 
 pub read_cases-binding-inner-requires : goal.read_cases-binding-inner-requires
 read_cases-binding-inner-requires t c = omega (arith, read-cases-fits t (goal.at.read_cases-binding-inner-requires t c).In-loop-f, ap length c.arguments_of.ensures.0)
 
 pub read_cases-read_tree-requires : goal.read_cases-read_tree-requires
 read_cases-read_tree-requires t c =
-    let arguments = ap length c.arguments_of.ensures.0 in
-    (omega arith, (omega (arith, read-cases-fits t (goal.at.read_cases-read_tree-requires t c).In-loop-f, arguments, c.binding-inner.ensures.1), omega arith, omega arith, c.requires.3))
+    (omega arith, c.requires.0)
 
 pub read_cases-returns-in_err-p : goal.read_cases-returns-in_err-p
 unfolding Branched
@@ -64,22 +63,22 @@ read_cases-returns-in_err-p t c =
     let binds = path.ensures.0 ∙ ap (λ (sorts : List ℕ). vars_of a.path ++ sorts) c.arguments_of.ensures.0 in
     λ done flags.
     let told = c.in_err-p.ensures done (subst (λ (is : List Bool). Flags is done) (sym path.ensures.2) flags) in
-    rw (handed_on _ c.from_residual.ensures.1) (case-refused a.book.now a.at.now a.sort a.e a.depth (vars_of a.path) done a.branch a.from a.ends.now
+    rw (handed_on _ c.from_residual.ensures.1) (case-refused a.table.book.now a.table.at.now a.sort a.e a.depth (vars_of a.path) done a.branch a.from a.ends.now
     l.f l.p l.ends c.loop-f-test.true l.invariant.0 (l.invariant.2 done flags) (vars_of path.result) binds c.read_tree.new.ends told.0)
 
 pub read_cases-next_of-f-requires : goal.read_cases-next_of-f-requires
 read_cases-next_of-f-requires t c =
-    omega (arith, c.loop-f-test.true, c.requires.3.few)
+    omega (arith, c.loop-f-test.true, c.args.table.tabled.few)
 
 -- the chain goes on
 read-cases-goes-on : (t : ℕ) (c : read_cases-After-next_of-f t)
     → let head = c in
     let a = c.args in
-    Arrives a.book.now a.at.now a.branch (c.loop-f.f + 1) c.next_of-f.result
+    Arrives a.table.book.now a.table.at.now a.branch (c.loop-f.f + 1) c.next_of-f.result
 read-cases-goes-on t c =
     let l = c.loop-f in
     let a = c.args in
-    rw c.next_of-f.ensures (chain_next a.book.now a.at.now a.branch c.requires.3.chained l.f c.loop-f-test.true l.invariant.0)
+    rw c.next_of-f.ensures (chain_next a.table.book.now a.table.at.now a.branch c.args.table.tabled.chained l.f c.loop-f-test.true l.invariant.0)
 
 pub read_cases-loop-f-smaller : goal.read_cases-loop-f-smaller
 read_cases-loop-f-smaller t c =
@@ -95,10 +94,10 @@ read_cases-loop-f-preserved t c =
     let binds = path.ensures.0 ∙ ap (λ (sorts : List ℕ). vars_of a.path ++ sorts) c.arguments_of.ensures.0 in
     let to = read-cases-goes-on t c in (
       to.on,
-      ap (binds_past a.path.bound) to.same ∙ none-behind a.book.now a.at.now a.path.bound a.branch l.f inside l.invariant.0 l.invariant.1,
+      ap (binds_past a.path.bound) to.same ∙ none-behind a.table.book.now a.table.at.now a.path.bound a.branch l.f inside l.invariant.0 l.invariant.1,
       λ done flags.
           let told = c.in_ok-p.ensures done (subst (λ (is : List Bool). Flags is done) (sym path.ensures.2) flags) in
-          case-read a.book.now a.at.now a.sort a.e a.depth (vars_of a.path) done a.branch a.from a.ends.now
+          case-read a.table.book.now a.table.at.now a.sort a.e a.depth (vars_of a.path) done a.branch a.from a.ends.now
           l.f l.p l.ends inside l.invariant.0 (l.invariant.2 done flags) (vars_of path.result) binds
           c.read_tree.new.ends (record { answer = told.0; marks = told.1 }) to,
     )
@@ -107,48 +106,48 @@ pub read_cases-returns : goal.read_cases-returns
 read_cases-returns t c =
     let l = c.loop-f in
     let a = c.args in
-    λ done flags. cases_last a.book.now a.at.now a.sort a.e a.depth (vars_of a.path) done a.branch a.from a.ends.now
+    λ done flags. cases_last a.table.book.now a.table.at.now a.sort a.e a.depth (vars_of a.path) done a.branch a.from a.ends.now
     l.f l.p l.ends c.loop-f-test.false (l.invariant.2 done flags)
 
 pub read_tree-returns-then-depth-eq0 : goal.read_tree-returns-then-depth-eq0
 read_tree-returns-then-depth-eq0 t c =
     let a = c.args in
     λ done flags.
-    let told = no_depth a.book.now (symbols_in a.book.now a.at.now) a.sort a.e (vars_of a.path) done a.p a.ends.now a.ends.now in
+    let told = no_depth a.table.book.now (symbols_in a.table.book.now a.table.at.now) a.sort a.e (vars_of a.path) done a.p a.ends.now a.ends.now in
     rw (c.at.ensures, c.if-depth-eq0.true) (told.answer, told.marks)
 
 pub read_tree-returns-in_err-code : goal.read_tree-returns-in_err-code
 read_tree-returns-in_err-code t c =
     let a = c.args in
-    let S = symbols_in a.book.now a.at.now in
-    λ done flags. rw (handed_on _ c.from_residual.ensures.1) (told_at a.book.now S a.sort a.e a.depth (vars_of a.path) done a.p c.if-depth-eq0.false
-    (no_code a.book.now S a.sort a.e (vars_of a.path) done a.p (a.depth - 1) a.ends.now a.ends.now c.in_err-code.ensures))
+    let S = symbols_in a.table.book.now a.table.at.now in
+    λ done flags. rw (handed_on _ c.from_residual.ensures.1) (told_at a.table.book.now S a.sort a.e a.depth (vars_of a.path) done a.p c.if-depth-eq0.false
+    (no_code a.table.book.now S a.sort a.e (vars_of a.path) done a.p (a.depth - 1) a.ends.now a.ends.now c.in_err-code.ensures))
 
 -- the code that was read stands at p, in the item
 read-tree-code : (t : ℕ) (c : read_tree-In_ok-code t)
     → let a = c.args in
-    (c.in_ok-code.code ≡ get_or a.book.now a.p 0) × (c.in_ok-code.from ≡ a.p + 1) × (c.in_ok-code.from ≤ a.e)
-read-tree-code t c = good-got (byte_good c.args.book.now 0 c.args.e c.args.p) (sym c.in_ok-code.ensures)
+    (c.in_ok-code.code ≡ get_or a.table.book.now a.p 0) × (c.in_ok-code.from ≡ a.p + 1) × (c.in_ok-code.from ≤ a.e)
+read-tree-code t c = good-got (byte_good c.args.table.book.now 0 c.args.e c.args.p) (sym c.in_ok-code.ensures)
 
 pub read_tree-returns-in_default : goal.read_tree-returns-in_default
 read_tree-returns-in_default t c =
     let a = c.args in
-    let S = symbols_in a.book.now a.at.now in
+    let S = symbols_in a.table.book.now a.table.at.now in
     let code = read-tree-code t (goal.at.read_tree-returns-in_default t c).In_ok-code in
-    λ done flags. rw c.at-in_default.ensures (told_at a.book.now S a.sort a.e a.depth (vars_of a.path) done a.p c.if-depth-eq0.false
+    λ done flags. rw c.at-in_default.ensures (told_at a.table.book.now S a.sort a.e a.depth (vars_of a.path) done a.p c.if-depth-eq0.false
     (elim c.in_default.branch [
-      | read_tree-in_default-via-in-0+else-byte-ne2 w ↦ exempt-refused a.book.now S a.sort a.e (vars_of a.path) done a.p (a.depth - 1) (omega (arith, code.1, code.2)) a.ends.now a.ends.now
+      | read_tree-in_default-via-in-0+else-byte-ne2 w ↦ exempt-refused a.table.book.now S a.sort a.e (vars_of a.path) done a.p (a.depth - 1) (omega (arith, code.1, code.2)) a.ends.now a.ends.now
           (omega (arith, code.0, w.in-0.is)) (omega (arith, w.byte.ensures, w.if-byte-ne2.false))
-      | read_tree-in_default-via-in_default-1 w ↦ unknown_code a.book.now S a.sort a.e (vars_of a.path) done a.p (a.depth - 1) (omega (arith, code.1, code.2)) a.ends.now a.ends.now (omega (arith, code.0))
+      | read_tree-in_default-via-in_default-1 w ↦ unknown_code a.table.book.now S a.sort a.e (vars_of a.path) done a.p (a.depth - 1) (omega (arith, code.1, code.2)) a.ends.now a.ends.now (omega (arith, code.0))
     ]))
 
 pub read_tree-returns-in_err-behind-in-1 : goal.read_tree-returns-in_err-behind-in-1
 read_tree-returns-in_err-behind-in-1 t c =
     let a = c.args in
-    let S = symbols_in a.book.now a.at.now in
+    let S = symbols_in a.table.book.now a.table.at.now in
     let code = read-tree-code t (goal.at.read_tree-returns-in_err-behind-in-1 t c).In_ok-code in
-    λ done flags. rw (handed_on _ c.from_residual-in_err-behind-in-1.ensures.1) (told_at a.book.now S a.sort a.e a.depth (vars_of a.path) done a.p c.if-depth-eq0.false
-    (rule-refused a.book.now S a.sort a.e (vars_of a.path) done a.p (a.depth - 1) (omega (arith, code.1, code.2)) a.ends.now a.ends.now
+    λ done flags. rw (handed_on _ c.from_residual-in_err-behind-in-1.ensures.1) (told_at a.table.book.now S a.sort a.e a.depth (vars_of a.path) done a.p c.if-depth-eq0.false
+    (rule-refused a.table.book.now S a.sort a.e (vars_of a.path) done a.p (a.depth - 1) (omega (arith, code.1, code.2)) a.ends.now a.ends.now
     (omega (arith, code.0, c.in-1.is)) (rw code.1 at c.in_err-behind-in-1.ensures)))
 
 -- there is a sort and a flag for each variable
@@ -164,19 +163,19 @@ fitting bs S sort e path p x q room read = branch_fits bs S sort e path.sorts pa
 pub read_tree-returns-in_err-x-in-2 : goal.read_tree-returns-in_err-x-in-2
 read_tree-returns-in_err-x-in-2 t c =
     let a = c.args in
-    let S = symbols_in a.book.now a.at.now in
+    let S = symbols_in a.table.book.now a.table.at.now in
     let code = read-tree-code t (goal.at.read_tree-returns-in_err-x-in-2 t c).In_ok-code in
-    λ done flags. rw (handed_on _ c.from_residual-in_err-x-in-2.ensures.1) (told_at a.book.now S a.sort a.e a.depth (vars_of a.path) done a.p c.if-depth-eq0.false
-    (branch-refused a.book.now S a.sort a.e (vars_of a.path) done a.p (a.depth - 1) (omega (arith, code.1, code.2)) a.ends.now a.ends.now
+    λ done flags. rw (handed_on _ c.from_residual-in_err-x-in-2.ensures.1) (told_at a.table.book.now S a.sort a.e a.depth (vars_of a.path) done a.p c.if-depth-eq0.false
+    (branch-refused a.table.book.now S a.sort a.e (vars_of a.path) done a.p (a.depth - 1) (omega (arith, code.1, code.2)) a.ends.now a.ends.now
     (omega (arith, code.0, c.in-2.is)) (rw code.1 at (c.in_err-x-in-2.ensures a.sort done flags))))
 
 -- the branch is fit, by what was answered of its variable
 read-tree-fitting : (t : ℕ) (c : read_tree-In_ok-x-in-2 t)
     → let a = c.args in
-    Fitting (symbols_in a.book.now a.at.now) a.path.sorts a.path.bound a.e c.in_ok-code.from c.in_ok-x-in-2.x c.in_ok-x-in-2.behind
+    Fitting (symbols_in a.table.book.now a.table.at.now) a.path.sorts a.path.bound a.e c.in_ok-code.from c.in_ok-x-in-2.x c.in_ok-x-in-2.behind
 read-tree-fitting t c =
     let a = c.args in
-    fitting a.book.now (symbols_in a.book.now a.at.now) a.sort a.e a.path c.in_ok-code.from c.in_ok-x-in-2.x c.in_ok-x-in-2.behind
+    fitting a.table.book.now (symbols_in a.table.book.now a.table.at.now) a.sort a.e a.path c.in_ok-code.from c.in_ok-x-in-2.x c.in_ok-x-in-2.behind
     (omega (arith, (read-tree-room t (goal.at.read_tree-In_ok-x-in-2 t c).Start).0)) c.in_ok-x-in-2.ensures
 
 pub read_tree-bounds-path-x : goal.read_tree-bounds-path-x
@@ -189,22 +188,22 @@ pub read_tree-read_cases-requires : goal.read_tree-read_cases-requires
 read_tree-read_cases-requires t c =
     let path = c.branched.ensures in
     let fits = (read-tree-fitting t (goal.at.read_tree-read_cases-requires t c).In_ok-x-in-2).fits in
-    (omega (arith, c.if-depth-eq0.false, c.requires.0), (omega (arith, path.1, c.requires.0), c.requires.1, c.requires.2, c.requires.3, rw path.1 fits))
+    (omega (arith, c.if-depth-eq0.false), (c.requires, rw path.1 fits))
 
 pub read_tree-returns-in_err-behind-in-2 : goal.read_tree-returns-in_err-behind-in-2
 unfolding Branched
 read_tree-returns-in_err-behind-in-2 t c =
     let path = c.branched in
     let a = c.args in
-    let S = symbols_in a.book.now a.at.now in
+    let S = symbols_in a.table.book.now a.table.at.now in
     let x = c.in_ok-x-in-2.x in
     let code = read-tree-code t (goal.at.read_tree-returns-in_err-behind-in-2 t c).In_ok-code in
     let there = (read-tree-fitting t (goal.at.read_tree-returns-in_err-behind-in-2 t c).In_ok-x-in-2).there in
     λ done flags.
-    let more = flags_more a.path.done done x (omega (arith, there, c.requires.0)) (read-tree-room t (goal.at.read_tree-returns-in_err-behind-in-2 t c).Start).1 flags in
+    let more = flags_more a.path.done done x (omega (arith, there, a.path.in_range)) (read-tree-room t (goal.at.read_tree-returns-in_err-behind-in-2 t c).Start).1 flags in
     let row = c.in_err-behind-in-2.ensures (x ∷ done) (subst (λ (is : List Bool). Flags is (x ∷ done)) (sym path.ensures.2) more) in
-    rw (handed_on _ c.from_residual-in_err-behind-in-2.ensures.1) (told_at a.book.now S a.sort a.e a.depth (vars_of a.path) done a.p c.if-depth-eq0.false
-    (branch-told-refused a.book.now S a.sort a.e (vars_of a.path) done a.p (a.depth - 1) (omega (arith, code.1, code.2)) a.ends.now
+    rw (handed_on _ c.from_residual-in_err-behind-in-2.ensures.1) (told_at a.table.book.now S a.sort a.e a.depth (vars_of a.path) done a.p c.if-depth-eq0.false
+    (branch-told-refused a.table.book.now S a.sort a.e (vars_of a.path) done a.p (a.depth - 1) (omega (arith, code.1, code.2)) a.ends.now
     x c.in_ok-x-in-2.behind c.read_cases.new.ends (vars_of path.result) (get_or a.path.sorts x 0)
     (omega (arith, code.0, c.in-2.is)) (rw code.1 at (c.in_ok-x-in-2.ensures a.sort done flags))
     (ap₂ take path.ensures.1 path.ensures.0) (sym (get_or-take a.path.bound a.path.sorts x 0 there)) row.0))
@@ -213,22 +212,22 @@ pub read_tree-overflow_cast-ends : goal.read_tree-overflow_cast-ends
 unfolding Branched
 read_tree-overflow_cast-ends t c =
     let a = c.args in
-    let S = symbols_in a.book.now a.at.now in
+    let S = symbols_in a.table.book.now a.table.at.now in
     let code = read-tree-code t (goal.at.read_tree-overflow_cast-ends t c).In_ok-code in
     let room : a.path.bound ≤ length a.path.sorts = omega (arith, (read-tree-room t (goal.at.read_tree-overflow_cast-ends t c).Start).0) in
     let within : c.match-code.behind ≤ a.e = elim c.match-code.branch [
       | read_tree-in-0 w ↦ omega (arith, w.behind-is, code.2)
       | read_tree-in-1+in_ok-behind-in-1 w ↦
-          omega (arith, w.behind-is, (kept-good left_of (whole_extent a.book.now 0 S a.e (vars_of a.path) a.sort c.in_ok-code.from) w.in_ok-behind-in-1.ensures).1.within)
+          omega (arith, w.behind-is, (kept-good left_of (whole_extent a.table.book.now 0 S a.e (vars_of a.path) a.sort c.in_ok-code.from) w.in_ok-behind-in-1.ensures).1.within)
       | read_tree-in-2+in_ok-x-in-2+in_ok-behind-in-2 w ↦
           let path = w.branched.result in
           let some = flags_some path.done in
           let q = w.in_ok-x-in-2.behind in
-          let fits = fitting a.book.now S a.sort a.e a.path c.in_ok-code.from w.in_ok-x-in-2.x q room w.in_ok-x-in-2.ensures in
-          let row = row_extent a.book.now S a.sort a.e _ (λ sorts k. tree_extent a.book.now S a.sort a.e (a.depth - 1) (vars_of path ++ sorts) some.0 k) _ q fits.within in
+          let fits = fitting a.table.book.now S a.sort a.e a.path c.in_ok-code.from w.in_ok-x-in-2.x q room w.in_ok-x-in-2.ensures in
+          let row = row_extent a.table.book.now S a.sort a.e _ (λ sorts k. tree_extent a.table.book.now S a.sort a.e (a.depth - 1) (vars_of path ++ sorts) some.0 k) _ q fits.within in
           omega (arith, w.behind-is, (kept-good nothing row (w.in_ok-behind-in-2.ensures some.0 some.1).0).1.within)
     ] in
-    omega (arith, within, c.requires.2)
+    omega (arith, within, c.requires, a.table.small)
 
 pub read_tree-bounds-ends-p : goal.read_tree-bounds-ends-p
 read_tree-bounds-ends-p t c =
@@ -244,27 +243,27 @@ pub read_tree-returns : goal.read_tree-returns
 unfolding Branched
 read_tree-returns t c =
     let a = c.args in
-    let S = symbols_in a.book.now a.at.now in
+    let S = symbols_in a.table.book.now a.table.at.now in
     let code = read-tree-code t (goal.at.read_tree-returns t c).In_ok-code in
     let sizes = read-tree-room t (goal.at.read_tree-returns t c).Start in
     let room : a.path.bound ≤ length a.path.sorts = omega (arith, sizes.0) in
     let inside : a.p < a.e = omega (arith, code.1, code.2) in
-    λ done flags. told_at a.book.now S a.sort a.e a.depth (vars_of a.path) done a.p c.if-depth-eq0.false
+    λ done flags. told_at a.table.book.now S a.sort a.e a.depth (vars_of a.path) done a.p c.if-depth-eq0.false
     (elim c.match-code.branch [
       | read_tree-in-0 w ↦
-          rw (w.behind-is, w.ends-is, code.1) (exempt-read a.book.now S a.sort a.e (vars_of a.path) done a.p (a.depth - 1) inside a.ends.now
+          rw (w.behind-is, w.ends-is, code.1) (exempt-read a.table.book.now S a.sort a.e (vars_of a.path) done a.p (a.depth - 1) inside a.ends.now
           (omega (arith, code.0, w.in-0.is)) (omega (arith, w.byte.ensures, w.if-byte-ne2.true)))
       | read_tree-in-1+in_ok-behind-in-1 w ↦
-          rw (w.behind-is, w.ends-is) (rule-read a.book.now S a.sort a.e (vars_of a.path) done a.p (a.depth - 1) inside a.ends.now
+          rw (w.behind-is, w.ends-is) (rule-read a.table.book.now S a.sort a.e (vars_of a.path) done a.p (a.depth - 1) inside a.ends.now
           (omega (arith, code.0, w.in-1.is)) (rw code.1 at w.in_ok-behind-in-1.ensures))
       | read_tree-in-2+in_ok-x-in-2+in_ok-behind-in-2 w ↦
           let path = w.branched in
           let x = w.in_ok-x-in-2.x in
           let q = w.in_ok-x-in-2.behind in
-          let there = (fitting a.book.now S a.sort a.e a.path c.in_ok-code.from x q room w.in_ok-x-in-2.ensures).there in
-          let more = flags_more a.path.done done x (omega (arith, there, c.requires.0)) sizes.1 flags in
+          let there = (fitting a.table.book.now S a.sort a.e a.path c.in_ok-code.from x q room w.in_ok-x-in-2.ensures).there in
+          let more = flags_more a.path.done done x (omega (arith, there, a.path.in_range)) sizes.1 flags in
           let row = w.in_ok-behind-in-2.ensures (x ∷ done) (subst (λ (is : List Bool). Flags is (x ∷ done)) (sym path.ensures.2) more) in
-          rw (w.behind-is, w.ends-is) (branch-told a.book.now S a.sort a.e (vars_of a.path) done a.p (a.depth - 1) inside a.ends.now
+          rw (w.behind-is, w.ends-is) (branch-told a.table.book.now S a.sort a.e (vars_of a.path) done a.p (a.depth - 1) inside a.ends.now
           x q w.read_cases.new.ends (vars_of path.result) (get_or a.path.sorts x 0)
           (omega (arith, code.0, w.in-2.is)) (rw code.1 at (w.in_ok-x-in-2.ensures a.sort done flags))
           (ap₂ take path.ensures.1 path.ensures.0) (sym (get_or-take a.path.bound a.path.sorts x 0 there)) row)

@@ -19,8 +19,8 @@ decreases-read_tree l = 2 * l.depth
 -- the cases before symbol f were read and marked, and none of those to come binds past the last
 abbrev pub invariant-read_cases-loop-f : goal.invariant-read_cases-loop-f
 invariant-read_cases-loop-f l =
-    OnChain l.book l.at l.branch l.f × (past_from l.book l.at l.path.bound l.branch l.f ≡ false)
-    × ((done : List ℕ) → Branched l.path done → Reached l.book l.at l.sort l.e l.depth (vars_of l.path) done l.branch l.from l.initial.ends l.f l.p l.ends)
+    OnChain l.table.book.now l.table.at.now l.branch l.f × (past_from l.table.book.now l.table.at.now l.path.bound l.branch l.f ≡ false)
+    × ((done : List ℕ) → Branched l.path done → Reached l.table.book.now l.table.at.now l.sort l.e l.depth (vars_of l.path) done l.branch l.from l.initial.ends l.f l.p l.ends)
 
 abbrev pub decreases-read_cases-loop-f : goal.decreases-read_cases-loop-f
-decreases-read_cases-loop-f l = length l.at - l.f
+decreases-read_cases-loop-f l = length l.table.at.now - l.f

@@ -23,47 +23,47 @@ room c =
 pub returns-in_err-x : goal.returns-in_err-x
 returns-in_err-x c =
     let a = c.args in
-    let S = symbols_in a.book.now a.at.now in
+    let S = symbols_in a.table.book.now a.table.at.now in
     let handed = err_from_is_err_and c.from_residual.result c.from_residual.ensures.1 in
-    λ sort done flags. rw (handed.1, handed.2) (variable-missing a.book.now S sort a.e (vars_of a.path) done a.p c.in_err-x.ensures)
+    λ sort done flags. rw (handed.1, handed.2) (variable-missing a.table.book.now S sort a.e (vars_of a.path) done a.p c.in_err-x.ensures)
 
 pub returns-then-path-x : goal.returns-then-path-x
 returns-then-path-x c =
     let a = c.args in
-    let S = symbols_in a.book.now a.at.now in
+    let S = symbols_in a.table.book.now a.table.at.now in
     let vars = length-take-le a.path.bound a.path.sorts (room (goal.at.returns-then-path-x c).Start) in
-    λ sort done flags. rw c.at.ensures (not_there a.book.now S sort a.e (vars_of a.path) done a.p c.in_ok-x.ensures (omega (arith, vars)))
+    λ sort done flags. rw c.at.ensures (not_there a.table.book.now S sort a.e (vars_of a.path) done a.p c.in_ok-x.ensures (omega (arith, vars)))
 
 pub returns-then-path-x-2 : goal.returns-then-path-x-2
 unfolding Branched
 returns-then-path-x-2 c =
     let a = c.args in
-    let S = symbols_in a.book.now a.at.now in
+    let S = symbols_in a.table.book.now a.table.at.now in
     let vars = length-take-le a.path.bound a.path.sorts (room (goal.at.returns-then-path-x-2 c).Start) in
     λ sort done flags. rw c.at-then-path-x-2.ensures
-    (twice a.book.now S sort a.e (vars_of a.path) done a.p c.in_ok-x.ensures (omega (arith, vars)) (flags c.in_ok-x.x (omega arith) ∙ c.if-path-x-2.true))
+    (twice a.table.book.now S sort a.e (vars_of a.path) done a.p c.in_ok-x.ensures (omega (arith, vars)) (flags c.in_ok-x.x (omega arith) ∙ c.if-path-x-2.true))
 
 pub returns-then-binds_past : goal.returns-then-binds_past
 unfolding Branched
 returns-then-binds_past c =
     let a = c.args in
-    let S = symbols_in a.book.now a.at.now in
+    let S = symbols_in a.table.book.now a.table.at.now in
     let x = c.in_ok-x.x in
     let there = c.if-path-x.false in
     let vars = length-take-le a.path.bound a.path.sorts (room (goal.at.returns-then-binds_past c).Start) in
     let same = past_bound S a.path.sorts a.path.bound x (room (goal.at.returns-then-binds_past c).Start) there in
     λ sort done flags. rw c.at-then-binds_past.ensures
-    (past a.book.now S sort a.e (vars_of a.path) done a.p c.in_ok-x.ensures (omega (arith, vars)) (flags x (omega arith) ∙ c.if-path-x-2.false)
+    (past a.table.book.now S sort a.e (vars_of a.path) done a.p c.in_ok-x.ensures (omega (arith, vars)) (flags x (omega arith) ∙ c.if-path-x-2.false)
     (same ∙ sym c.binds_past.ensures ∙ c.if-binds_past.true))
 
 pub returns : goal.returns
 unfolding Branched
 returns c =
     let a = c.args in
-    let S = symbols_in a.book.now a.at.now in
+    let S = symbols_in a.table.book.now a.table.at.now in
     let x = c.in_ok-x.x in
     let there = c.if-path-x.false in
     let vars = length-take-le a.path.bound a.path.sorts (room (goal.at.returns c).Start) in
     let same = past_bound S a.path.sorts a.path.bound x (room (goal.at.returns c).Start) there in
-    λ sort done flags. fits a.book.now S sort a.e (vars_of a.path) done a.p c.in_ok-x.ensures (omega (arith, vars)) (flags x (omega arith) ∙ c.if-path-x-2.false)
+    λ sort done flags. fits a.table.book.now S sort a.e (vars_of a.path) done a.p c.in_ok-x.ensures (omega (arith, vars)) (flags x (omega arith) ∙ c.if-path-x-2.false)
     (same ∙ sym c.binds_past.ensures ∙ c.if-binds_past.false)

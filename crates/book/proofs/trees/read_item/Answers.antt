@@ -14,7 +14,8 @@ use Rattle.symbols.specs.Symbols.{Symbol, Symbols}
 use Rattle.symbols.specs.Table.{symbol_in, symbols_in}
 use Rattle.symbols.proofs.Tables.{symbol-there, as_many}
 use Rattle.book.specs.TreeAt.{tree_in}
-use Rattle.book.specs.Reader.{vars_of, Branched, FewArguments, Marked}
+use Rattle.book.specs.Reader.{vars_of, Branched, Marked}
+use Rattle.book.specs.Tabled.{FewArguments}
 use Rattle.book.proofs.Paths.{Flags, flags_none}
 use Rattle.book.proofs.PartWays.{item_unopened, item_refused, item-left-over, item-read}
 use Rattle.book.proofs.TreeWays.{Told}
@@ -23,7 +24,6 @@ use Rattle.book.proofs.trees.read_item.Goals.{After-read_tree}
 
 -- the symbol at a place of the table has few arguments
 few-there : (bs places : List ℕ) (f : ℕ) → f < length places → FewArguments (symbols_in bs places) → length (symbol_in bs (get_or places f 0)).arguments ≤ most_arguments
-unfolding FewArguments
 few-there bs places f h few = rw (symbol-there bs places f h) at (few f (omega (arith, as_many bs places)))
 
 -- what is told of the tree, by the operation's own sort and arguments
@@ -36,33 +36,27 @@ operation-told bs S x e q sort vars its-sort its-arguments told =
 
 pub binding-path-requires : goal.binding-path-requires
 binding-path-requires c =
-    let few = few-there c.args.book.now c.args.at.now c.args.f c.requires.3 c.requires.4 in
+    let few = few-there c.args.table.book.now c.args.table.at.now c.args.f c.requires.1 c.args.table.few_arguments in
     omega (arith, few, c.empty.ensures.0, ap length c.arguments_of.ensures.0)
 
 pub read_tree-requires : goal.read_tree-requires
 read_tree-requires c =
-    let few = few-there c.args.book.now c.args.at.now c.args.f c.requires.3 c.requires.4 in
-    let arguments = ap length c.arguments_of.ensures.0 in
-    let within = good-got (length-good c.args.book.now 0 c.args.e c.args.p) (sym c.in_ok-item.ensures) in (
-      omega (arith, few, arguments, c.binding-path.ensures.1, c.empty.ensures.0),
-      omega (arith, within.2, c.requires.0),
-      omega (arith, within.2, c.requires.1),
-      c.requires.2,
-    )
+    let within = good-got (length-good c.args.table.book.now 0 c.args.e c.args.p) (sym c.in_ok-item.ensures) in
+    omega (arith, within.2, c.requires.0)
 
 -- what is told of the operation's tree, by the answer of its reader
 tree-told : (c : After-read_tree) {r : Reading ℕ}
     → let item = c in
     let a = c.args in
-    let S = symbols_in a.book.now a.at.now in
-    let x = symbol_in a.book.now (get_or a.at.now a.f 0) in
+    let S = symbols_in a.table.book.now a.table.at.now in
+    let x = symbol_in a.table.book.now (get_or a.table.at.now a.f 0) in
     let end = c.in_ok-item.item in
     let q = c.in_ok-item.q in
     let path = c.binding-path.result in
     ((done : List ℕ) → Branched path done
-    → let tree = tree_in a.book.now S c.sort_of-sort.result end (suc most_variables) (vars_of path) done q in
+    → let tree = tree_in a.table.book.now S c.sort_of-sort.result end (suc most_variables) (vars_of path) done q in
     (r ≡ keeping nothing tree) × Marked q tree a.ends.now c.read_tree.new.ends)
-    → Told q r (tree_in a.book.now S x.sort end (suc most_variables) x.arguments [] q) a.ends.now c.read_tree.new.ends
+    → Told q r (tree_in a.table.book.now S x.sort end (suc most_variables) x.arguments [] q) a.ends.now c.read_tree.new.ends
 unfolding Branched
 tree-told c answered =
     let sort = c.sort_of-sort in
@@ -73,36 +67,36 @@ tree-told c answered =
     let a = c.args in
     let vars = path.ensures.0 ∙ ap (λ (n : ℕ). take n empty.result.sorts ++ sorts.result.now) empty.ensures.0 ∙ sorts.ensures.0 in
     let flags = subst (λ (is : List Bool). Flags is []) (sym (path.ensures.2 ∙ empty.ensures.1)) flags_none in
-    operation-told a.book.now (symbols_in a.book.now a.at.now) (symbol_in a.book.now (get_or a.at.now a.f 0))
+    operation-told a.table.book.now (symbols_in a.table.book.now a.table.at.now) (symbol_in a.table.book.now (get_or a.table.at.now a.f 0))
     c.in_ok-item.item c.in_ok-item.q sort.result (vars_of path.result) sort.ensures vars (answered [] flags)
 
 pub returns-in_err-item : goal.returns-in_err-item
 returns-in_err-item c =
     let a = c.args in
-    let x = symbol_in a.book.now (get_or a.at.now a.f 0) in
-    let told = item_unopened a.book.now (symbols_in a.book.now a.at.now) a.e x a.p a.ends.now a.ends.now c.in_err-item.ensures in
+    let x = symbol_in a.table.book.now (get_or a.table.at.now a.f 0) in
+    let told = item_unopened a.table.book.now (symbols_in a.table.book.now a.table.at.now) a.e x a.p a.ends.now a.ends.now c.in_err-item.ensures in
     rw (handed_on _ c.from_residual.ensures.1) (told.answer, told.marks)
 
 pub returns-in_err-behind : goal.returns-in_err-behind
 returns-in_err-behind c =
     let a = c.args in
-    let x = symbol_in a.book.now (get_or a.at.now a.f 0) in
+    let x = symbol_in a.table.book.now (get_or a.table.at.now a.f 0) in
     let read = tree-told (goal.at.returns-in_err-behind c).After-read_tree c.in_err-behind.ensures in
-    let told = item_refused a.book.now (symbols_in a.book.now a.at.now) a.e x a.p a.ends.now c.read_tree.new.ends c.in_ok-item.ensures read.answer in
+    let told = item_refused a.table.book.now (symbols_in a.table.book.now a.table.at.now) a.e x a.p a.ends.now c.read_tree.new.ends c.in_ok-item.ensures read.answer in
     rw (handed_on _ c.from_residual-in_err-behind.ensures.1) (told.answer, told.marks)
 
 pub returns-then-behind-item : goal.returns-then-behind-item
 returns-then-behind-item c =
     let a = c.args in
-    let x = symbol_in a.book.now (get_or a.at.now a.f 0) in
+    let x = symbol_in a.table.book.now (get_or a.table.at.now a.f 0) in
     let read = tree-told (goal.at.returns-then-behind-item c).After-read_tree c.in_ok-behind.ensures in
-    let told = item-left-over a.book.now (symbols_in a.book.now a.at.now) a.e x a.p a.ends.now c.read_tree.new.ends c.in_ok-item.ensures read c.if-behind-item.true in
+    let told = item-left-over a.table.book.now (symbols_in a.table.book.now a.table.at.now) a.e x a.p a.ends.now c.read_tree.new.ends c.in_ok-item.ensures read c.if-behind-item.true in
     rw c.at.ensures (told.answer, told.marks)
 
 pub returns : goal.returns
 returns c =
     let a = c.args in
-    let x = symbol_in a.book.now (get_or a.at.now a.f 0) in
+    let x = symbol_in a.table.book.now (get_or a.table.at.now a.f 0) in
     let read = tree-told (goal.at.returns c).After-read_tree c.in_ok-behind.ensures in
-    let told = item-read a.book.now (symbols_in a.book.now a.at.now) a.e x a.p a.ends.now c.read_tree.new.ends c.in_ok-item.ensures read c.if-behind-item.false in
+    let told = item-read a.table.book.now (symbols_in a.table.book.now a.table.at.now) a.e x a.p a.ends.now c.read_tree.new.ends c.in_ok-item.ensures read c.if-behind-item.false in
     (told.answer, told.marks)

@@ -1,7 +1,7 @@
 -- `read_rule` meets its contract: the expression is read in the part of the book that ends at e, with the variables that are bound.
 use borrow.Author.Rules.{rules}
 use mathlib.Core.List.{List}
-use mathlib.Core.Path.{◌≡◌, ap, ◌∙◌}
+use mathlib.Core.Path.{◌≡◌, sym, ap, ◌∙◌}
 use Prim.Native.Nat.{ℕ, ◌≤◌}
 use native.Mathlib.Nat.{sub-zero}
 use native.Mathlib.Omega.{arith}
@@ -17,16 +17,17 @@ use Rattle.book.proofs.trees.read_rule.Goals as goal
 
 -- what is read in the part is read in the book
 in-part : (bs : List ℕ) (S : Symbols) (e : ℕ) (sorts : List ℕ) (bound sort p : ℕ) → e ≤ length bs
-    → whole_at (part_of bs 0 e) 0 S (length (part_of bs 0 e)) (part_of sorts 0 bound) sort p ≡ whole_at bs 0 S e (take bound sorts) sort p
-in-part bs S e sorts bound sort p h = rw (sub-zero e, sub-zero bound, length-take-le e bs h) (whole_same bs 0 e S (take bound sorts) sort p)
+    → whole_at (part_of bs 0 e) 0 S (length (part_of bs 0 e)) (take bound sorts) sort p ≡ whole_at bs 0 S e (take bound sorts) sort p
+in-part bs S e sorts bound sort p h = rw (sub-zero e, length-take-le e bs h) (whole_same bs 0 e S (take bound sorts) sort p)
 
 pub slice_bounds-read_whole-end : goal.slice_bounds-read_whole-end
 slice_bounds-read_whole-end c =
-    let room : length c.args.path.sorts ≡ most_variables = search rules in
-    omega arith
+    let a = c.args in
+    let room : length a.path.sorts ≡ most_variables = search rules in
+    sym (length-take-le a.path.bound a.path.sorts (omega arith))
 
 pub returns : goal.returns
 returns c =
     let a = c.args in
     c.read_whole.ensures
-    ∙ ap (keeping left_of) (in-part a.book.now (symbols_in a.book.now a.at.now) a.e a.path.sorts a.path.bound a.sort a.p c.requires.1)
+    ∙ ap (keeping left_of) (in-part a.table.book.now (symbols_in a.table.book.now a.table.at.now) a.e a.path.sorts a.path.bound a.sort a.p c.requires)

@@ -1,6 +1,5 @@
 -- `read_tree_part` meets its contract: the part is opened, its trees are read, and nothing is left over.
 use mathlib.Core.Path.{sym}
-use native.Mathlib.Omega.{arith}
 use lib.ListN.{length}
 use Rattle.reading.proofs.Exits.{handed_on}
 use Rattle.reading.proofs.Good.{good-got, length-good}
@@ -11,34 +10,34 @@ use Rattle.book.proofs.trees.read_tree_part.Goals as goal
 pub returns-in_err-e : goal.returns-in_err-e
 returns-in_err-e c =
     let a = c.args in
-    let told = part_unopened a.book.now (symbols_in a.book.now a.at.now) a.p c.in_err-e.ensures in
+    let told = part_unopened a.table.book.now (symbols_in a.table.book.now a.table.at.now) a.p c.in_err-e.ensures in
     rw (handed_on _ c.from_residual.ensures.1) (told, tt)
 
 pub read_trees-requires : goal.read_trees-requires
 read_trees-requires c =
-    let within = good-got (length-good c.args.book.now 0 (length c.args.book.now) c.args.p) (sym c.in_ok-e.ensures) in
-    (within.2, omega (arith, within.2, c.requires.0), c.requires.1, c.requires.2)
+    let within = good-got (length-good c.args.table.book.now 0 (length c.args.table.book.now) c.args.p) (sym c.in_ok-e.ensures) in
+    within.2
 
 pub returns-in_err-behind : goal.returns-in_err-behind
 returns-in_err-behind c =
     let a = c.args in
-    let told = part-refused a.book.now (symbols_in a.book.now a.at.now) a.p c.in_ok-e.ensures c.in_err-behind.ensures.0 in
+    let told = part-refused a.table.book.now (symbols_in a.table.book.now a.table.at.now) a.p c.in_ok-e.ensures c.in_err-behind.ensures.0 in
     rw (handed_on _ c.from_residual-in_err-behind.ensures.1) (told, tt)
 
 pub returns-then-behind-e : goal.returns-then-behind-e
 returns-then-behind-e c =
     let a = c.args in
-    let told = part-left-over a.book.now (symbols_in a.book.now a.at.now) a.p c.in_ok-e.ensures c.in_ok-behind.ensures.0 c.if-behind-e.true in
+    let told = part-left-over a.table.book.now (symbols_in a.table.book.now a.table.at.now) a.p c.in_ok-e.ensures c.in_ok-behind.ensures.0 c.if-behind-e.true in
     rw c.at.ensures (told, tt)
 
-pub returns-then-behind-book : goal.returns-then-behind-book
-returns-then-behind-book c =
+pub returns-then-behind-table : goal.returns-then-behind-table
+returns-then-behind-table c =
     let a = c.args in
-    let told = book-left-over a.book.now (symbols_in a.book.now a.at.now) a.p c.in_ok-e.ensures c.in_ok-behind.ensures.0 c.if-behind-e.false c.if-behind-book.true in
-    rw c.at-then-behind-book.ensures (told, tt)
+    let told = book-left-over a.table.book.now (symbols_in a.table.book.now a.table.at.now) a.p c.in_ok-e.ensures c.in_ok-behind.ensures.0 c.if-behind-e.false c.if-behind-table.true in
+    rw c.at-then-behind-table.ensures (told, tt)
 
 pub returns : goal.returns
 returns c =
     let a = c.args in
-    part-read a.book.now (symbols_in a.book.now a.at.now) a.p c.in_ok-e.ensures c.in_ok-behind.ensures.0 c.if-behind-e.false c.if-behind-book.false
+    part-read a.table.book.now (symbols_in a.table.book.now a.table.at.now) a.p c.in_ok-e.ensures c.in_ok-behind.ensures.0 c.if-behind-e.false c.if-behind-table.false
     a.ranks c.read_trees.new.info _ c.read_trees.new.ends c.in_ok-behind.ensures.1

@@ -17,16 +17,16 @@ use Rattle.book.proofs.trees.read_trees.Goals.{In_ok-behind, then-is_operation+i
 pub loop-f-init : goal.loop-f-init
 loop-f-init c =
     let a = c.args in
-    reached-first a.book.now (symbols_in a.book.now a.at.now) a.e a.from a.info.now a.ends.now
+    reached-first a.table.book.now (symbols_in a.table.book.now a.table.at.now) a.e a.from a.info.now a.ends.now
 
 pub returns-in_err-behind : goal.returns-in_err-behind
 returns-in_err-behind c =
     let a = c.args in
     let l = c.loop-f in
-    let S = symbols_in a.book.now a.at.now in
-    let x = symbol_in a.book.now (get_or a.at.now l.f 0) in
-    let next = next-symbol a.book.now a.at.now l.f c.loop-f-test.true in
-    let all = reached-refused a.book.now S a.e a.from a.info.now a.ends.now l.p l.f l.info l.ends l.invariant x (symbols_from a.book.now a.at.now (l.f + 1)) next
+    let S = symbols_in a.table.book.now a.table.at.now in
+    let x = symbol_in a.table.book.now (get_or a.table.at.now l.f 0) in
+    let next = next-symbol a.table.book.now a.table.at.now l.f c.loop-f-test.true in
+    let all = reached-refused a.table.book.now S a.e a.from a.info.now a.ends.now l.p l.f l.info l.ends l.invariant x (symbols_from a.table.book.now a.table.at.now (l.f + 1)) next
     l.info c.read_item.new.ends (sym c.is_operation.ensures ∙ c.if-is_operation.true) c.in_err-behind.ensures.0 in
     rw (handed_on _ c.from_residual.ensures.1) (all.answer, all.index)
 
@@ -34,9 +34,9 @@ returns-in_err-behind c =
 item-within : (c : In_ok-behind) → c.loop-f.p + 2 ≤ most_book_bytes
 item-within c =
     let a = c.args in
-    let x = symbol_in a.book.now (get_or a.at.now c.loop-f.f 0) in
-    let extent = (kept-good nothing (item_extent a.book.now (symbols_in a.book.now a.at.now) a.e x c.loop-f.p) c.in_ok-behind.ensures.0).1 in
-    omega (arith, extent.size, extent.within, c.requires.1)
+    let x = symbol_in a.table.book.now (get_or a.table.at.now c.loop-f.f 0) in
+    let extent = (kept-good nothing (item_extent a.table.book.now (symbols_in a.table.book.now a.table.at.now) a.e x c.loop-f.p) c.in_ok-behind.ensures.0).1 in
+    omega (arith, extent.size, extent.within, c.requires, a.table.small)
 
 pub overflow_add-info : goal.overflow_add-info
 overflow_add-info c = omega (arith, item-within c)
@@ -48,16 +48,16 @@ pub loop-f-preserved : goal.loop-f-preserved
 loop-f-preserved c =
     let a = c.args in
     let l = c.loop-f in
-    let S = symbols_in a.book.now a.at.now in
-    let x = symbol_in a.book.now (get_or a.at.now l.f 0) in
-    let rest = symbols_from a.book.now a.at.now (l.f + 1) in
-    let next = next-symbol a.book.now a.at.now l.f c.loop-f-test.true in
+    let S = symbols_in a.table.book.now a.table.at.now in
+    let x = symbol_in a.table.book.now (get_or a.table.at.now l.f 0) in
+    let rest = symbols_from a.table.book.now a.table.at.now (l.f + 1) in
+    let next = next-symbol a.table.book.now a.table.at.now l.f c.loop-f-test.true in
     elim c.if-is_operation.branch [
       | then-is_operation+in_ok-behind w ↦
-          rw (w.info-is, w.ends-is, w.p-is) (reached-read a.book.now S a.e a.from a.info.now a.ends.now l.p l.f l.info l.ends l.invariant x rest next
+          rw (w.info-is, w.ends-is, w.p-is) (reached-read a.table.book.now S a.e a.from a.info.now a.ends.now l.p l.f l.info l.ends l.invariant x rest next
           w.read_item.new.ends (sym c.is_operation.ensures ∙ w.if-is_operation.true) (record { answer = w.in_ok-behind.ensures.0; marks = w.in_ok-behind.ensures.1 }))
       | else-is_operation w ↦
-          rw (w.info-is, w.ends-is, w.p-is) (reached-past a.book.now S a.e a.from a.info.now a.ends.now l.p l.f l.info l.ends l.invariant x rest next
+          rw (w.info-is, w.ends-is, w.p-is) (reached-past a.table.book.now S a.e a.from a.info.now a.ends.now l.p l.f l.info l.ends l.invariant x rest next
           (sym c.is_operation.ensures ∙ w.if-is_operation.false))
     ]
 
@@ -65,6 +65,6 @@ pub returns : goal.returns
 returns c =
     let a = c.args in
     let l = c.loop-f in
-    let all = reached-last a.book.now (symbols_in a.book.now a.at.now) a.e a.from a.info.now a.ends.now l.p l.f l.info l.ends l.invariant
-    (no_symbol_lem a.book.now a.at.now l.f c.loop-f-test.false) in
+    let all = reached-last a.table.book.now (symbols_in a.table.book.now a.table.at.now) a.e a.from a.info.now a.ends.now l.p l.f l.info l.ends l.invariant
+    (no_symbol_lem a.table.book.now a.table.at.now l.f c.loop-f-test.false) in
     (all.answer, all.index)
