@@ -32,6 +32,7 @@ pub struct BookIndex {
     pub ends: [u16; Limits::BOOK],
 }
 
+// Reads a whole book, or hands out the first fault met.
 pub fn read_book(book: &[u8]) -> Result<BookIndex, Refusal>
     ensures reading { reading_by (λ (index : BookIndex). (index.count, index.next)) result ≡ keeping (λ (x : Rules). length x.symbols) (read_book book.now) }
     ensures index { IfOk result (λ (index : BookIndex). (index.at ≡ at_after (read_book book.now)) × (index.info ≡ info_after (read_book book.now)) × (index.ends ≡ ends_after (read_book book.now))) }
@@ -59,15 +60,13 @@ pub fn read_book(book: &[u8]) -> Result<BookIndex, Refusal>
 pub fn rows_read(book: &[u8]) -> usize
     ensures { (result ≡ rows_read book.now) × (result ≤ most_symbols + most_symbols) }
 {
-    match read_symbol_part(book) {
-        Ok(symbols) => {
-            let table = Table {
-                book,
-                at: &symbols.at[..symbols.count],
-                chain: &symbols.chain,
-            };
-            symbols.count + trees_read(table, symbols.next)
-        }
-        Err(_) => symbols_read(book),
-    }
+    let Ok(symbols) = read_symbol_part(book) else {
+        return symbols_read(book);
+    };
+    let table = Table {
+        book,
+        at: &symbols.at[..symbols.count],
+        chain: &symbols.chain,
+    };
+    symbols.count + trees_read(table, symbols.next)
 }

@@ -7,7 +7,7 @@ ghost use Rattle.book.specs.Tabled.{Tabled, FewArguments};
 use symbol_part::Chain;
 use symbols::table;
 
-// `at` has the place of each symbol.
+// `at` has the place of each symbol. What is known of the book and its table is said once, here.
 #[derive(Clone, Copy)]
 pub struct Table<'a> {
     pub book: &'a [u8],
@@ -42,8 +42,7 @@ impl<'a> Table<'a> {
     pub(crate) fn first_of(self, sort: u8) -> usize
         ensures { result ≡ get_or self.entry.chain.now.first sort 0 }
     {
-        let chain = self.chain;
-        chain.first[sort as usize] as usize
+        self.chain.first[sort as usize] as usize
     }
 
     // The constructor of the same sort behind symbol f, or the count of symbols.
@@ -51,7 +50,6 @@ impl<'a> Table<'a> {
         requires { f < most_symbols }
         ensures { result ≡ get_or self.entry.chain.now.next f 0 }
     {
-        let chain = self.chain;
-        chain.next[f] as usize
+        self.chain.next[f] as usize
     }
 }

@@ -1,9 +1,8 @@
 // The tree part. `ends` gets, at the place of each tree, the place behind it: a run hops from tree to tree by it.
-ghost use Rattle.std.specs.Prelude.{false, List, ◌≡◌, ℕ, ◌+◌, ◌<◌, ◌≤◌, length, get_or, replicate, IfOk};
-ghost use Rattle.limits.specs.Sizes.{most_book_bytes, most_symbols, most_variables};
-ghost use Rattle.reading.specs.Answer.{reading_of, keeping, nothing};
+ghost use Rattle.std.specs.Prelude.{List, ◌≡◌, ℕ, ◌<◌, ◌≤◌, length, replicate};
+ghost use Rattle.limits.specs.Sizes.{most_book_bytes, most_symbols};
+ghost use Rattle.reading.specs.Answer.{reading_of, keeping};
 ghost use Rattle.symbols.specs.Symbols.{constructors_of};
-ghost use Rattle.symbols.specs.Table.{symbols_in};
 ghost use Rattle.expressions.specs.ExpressionAt.{left_of, whole_at};
 ghost use Rattle.book.specs.TreeAt.{binds_past, branched_at};
 ghost use Rattle.book.specs.Reader.{vars_of, Branched};
@@ -36,13 +35,7 @@ fn read_branched(table: Table<'_>, e: usize, path: Path, p: usize) -> Reading
     ensures { (sort : ℕ) (done : List ℕ) → Branched path done → reading_of result ≡ branched_at table.entry.book.now (symbols_of table.entry) sort e (vars_of path) done p }
 {
     let (x, behind) = byte_at(table.book, Asker::Book, e, p)?;
-    if path.bound <= x {
-        return Err(Fault::Code.at(Asker::Book, p));
-    }
-    if path.done[x] {
-        return Err(Fault::Code.at(Asker::Book, p));
-    }
-    if binds_past(table, path, path.sorts[x]) {
+    if path.bound <= x || path.done[x] || binds_past(table, path, path.sorts[x]) {
         return Err(Fault::Code.at(Asker::Book, p));
     }
     Ok((x, behind))
@@ -53,16 +46,13 @@ fn read_rule(table: Table<'_>, e: usize, path: Path, sort: u8, p: usize) -> Read
     requires { e ≤ length table.book.now }
     ensures { reading_of result ≡ keeping left_of (whole_at table.entry.book.now 0 (symbols_of table.entry) e (vars_of path) sort p) }
 {
-    let book = table.book;
-    let sorts = path.sorts;
-    let bound = path.bound;
     read_whole(
-        book,
-        book,
+        table.book,
+        table.book,
         Asker::Book,
         table.at,
         e,
-        &sorts[..bound],
+        &path.sorts[..path.bound],
         sort,
         p,
     )
@@ -91,10 +81,7 @@ fn read_tree(
         // An exempt, which edition 2 has not.
         0 if byte(table.book, 0) != 2 => from,
         // A rule.
-        1 => {
-            let (_, behind) = read_rule(table, e, path, sort, from)?;
-            behind
-        }
+        1 => read_rule(table, e, path, sort, from)?.1,
         // A branch.
         2 => {
             let (x, behind) = read_branched(table, e, path, from)?;
@@ -205,10 +192,7 @@ pub(crate) fn read_tree_part(
     let mut info = ranks;
     let mut ends = [0u16; Limits::BOOK];
     let behind = read_trees(table, e, q, &mut info, &mut ends)?;
-    if behind < e {
-        return Err(Fault::Extent.at(Asker::Book, behind));
-    }
-    if behind < table.book.len() {
+    if behind < e || behind < table.book.len() {
         return Err(Fault::Extent.at(Asker::Book, behind));
     }
     Ok(TreePart {

@@ -23,18 +23,13 @@ invariant_of-table c =
     let known = kept (goal.at.invariant_of-table c).In-Ok in
     record { small = known.size; tabled = tabled known; few_arguments = rw known.means known.few_arguments }
 
-pub overflow_add-result : goal.overflow_add-result
-overflow_add-result c =
-    let known = kept (goal.at.overflow_add-result c).In-Ok in
-    record { fits = omega (arith, known.few, c.trees_read.ensures.1) }
-
-pub returns-in-Err : goal.returns-in-Err
-returns-in-Err c =
+pub returns-in_default : goal.returns-in_default
+returns-in_default c =
     let counted = c.symbols_read.ensures in
-    (symbols-counted c.args.book.now c.in-Err.ensures.reading counted.0, omega (arith, counted.1))
+    (symbols-counted c.args.book.now c.in_default.ensures.reading counted.0, omega (arith, counted.1))
 
-pub returns-in-Ok : goal.returns-in-Ok
-returns-in-Ok c =
-    let known = kept (goal.at.returns-in-Ok c).In-Ok in
+pub returns : goal.returns
+returns c =
+    let known = kept (goal.at.returns c).In-Ok in
     let counted = rw known.means at c.trees_read.ensures in
     (trees-counted c.args.book.now known.part known.many counted.0, omega (arith, known.few, counted.1))

@@ -27,7 +27,7 @@ use Rattle.book.proofs.TreeExtents.{tree_extent, row_extent}
 use Rattle.book.proofs.TreeTold.{kept-good, told_at, branch-told, branch-told-refused}
 use Rattle.book.proofs.TreeWays.{no_depth, no_code, unknown_code, exempt-refused, exempt-read, rule-read, rule-refused, branch-refused}
 use Rattle.book.proofs.trees.+read_cases_read_tree.Goals as goal
-use Rattle.book.proofs.trees.+read_cases_read_tree.Goals.{read_cases-After-next_of-f, read_cases-In-loop-f, read_tree-In_ok-code, read_tree-In_ok-x-in-2, read_tree-Start, read_tree-in_default-via-in-0+else-byte-ne2, read_tree-in_default-via-in_default-1, read_tree-in-0, read_tree-in-1+in_ok-behind-in-1, read_tree-in-2+in_ok-x-in-2+in_ok-behind-in-2}
+use Rattle.book.proofs.trees.+read_cases_read_tree.Goals.{read_cases-After-next_of-f, read_cases-In-loop-f, read_tree-In_ok-code, read_tree-In_ok-x-in-2, read_tree-Start, read_tree-in_default-via-in-0+else-byte-ne2, read_tree-in_default-via-in_default-1, read_tree-in-0, read_tree-in-1+in_ok-read_rule-in-1, read_tree-in-2+in_ok-x-in-2+in_ok-behind-in-2}
 
 pub read_cases-loop-f-init : goal.read_cases-loop-f-init
 read_cases-loop-f-init t c =
@@ -50,10 +50,6 @@ read-cases-fits t c =
 pub read_cases-binding-inner-requires : goal.read_cases-binding-inner-requires
 read_cases-binding-inner-requires t c = omega (arith, read-cases-fits t (goal.at.read_cases-binding-inner-requires t c).In-loop-f, ap length c.arguments_of.ensures.0)
 
-pub read_cases-read_tree-requires : goal.read_cases-read_tree-requires
-read_cases-read_tree-requires t c =
-    (omega arith, c.requires.0)
-
 pub read_cases-returns-in_err-p : goal.read_cases-returns-in_err-p
 unfolding Branched
 read_cases-returns-in_err-p t c =
@@ -65,10 +61,6 @@ read_cases-returns-in_err-p t c =
     let told = c.in_err-p.ensures done (subst (λ (is : List Bool). Flags is done) (sym path.ensures.2) flags) in
     rw (handed_on _ c.from_residual.ensures.1) (case-refused a.table.book.now a.table.at.now a.sort a.e a.depth (vars_of a.path) done a.branch a.from a.ends.now
     l.f l.p l.ends c.loop-f-test.true l.invariant.0 (l.invariant.2 done flags) (vars_of path.result) binds c.read_tree.new.ends told.0)
-
-pub read_cases-next_of-f-requires : goal.read_cases-next_of-f-requires
-read_cases-next_of-f-requires t c =
-    omega (arith, c.loop-f-test.true, c.args.table.tabled.few)
 
 -- the chain goes on
 read-cases-goes-on : (t : ℕ) (c : read_cases-After-next_of-f t)
@@ -141,14 +133,14 @@ read_tree-returns-in_default t c =
       | read_tree-in_default-via-in_default-1 w ↦ unknown_code a.table.book.now S a.sort a.e (vars_of a.path) done a.p (a.depth - 1) (omega (arith, code.1, code.2)) a.ends.now a.ends.now (omega (arith, code.0))
     ]))
 
-pub read_tree-returns-in_err-behind-in-1 : goal.read_tree-returns-in_err-behind-in-1
-read_tree-returns-in_err-behind-in-1 t c =
+pub read_tree-returns-in_err-read_rule-in-1 : goal.read_tree-returns-in_err-read_rule-in-1
+read_tree-returns-in_err-read_rule-in-1 t c =
     let a = c.args in
     let S = symbols_in a.table.book.now a.table.at.now in
-    let code = read-tree-code t (goal.at.read_tree-returns-in_err-behind-in-1 t c).In_ok-code in
-    λ done flags. rw (handed_on _ c.from_residual-in_err-behind-in-1.ensures.1) (told_at a.table.book.now S a.sort a.e a.depth (vars_of a.path) done a.p c.if-depth-eq0.false
+    let code = read-tree-code t (goal.at.read_tree-returns-in_err-read_rule-in-1 t c).In_ok-code in
+    λ done flags. rw (handed_on _ c.from_residual-in_err-read_rule-in-1.ensures.1) (told_at a.table.book.now S a.sort a.e a.depth (vars_of a.path) done a.p c.if-depth-eq0.false
     (rule-refused a.table.book.now S a.sort a.e (vars_of a.path) done a.p (a.depth - 1) (omega (arith, code.1, code.2)) a.ends.now a.ends.now
-    (omega (arith, code.0, c.in-1.is)) (rw code.1 at c.in_err-behind-in-1.ensures)))
+    (omega (arith, code.0, c.in-1.is)) (rw code.1 at c.in_err-read_rule-in-1.ensures)))
 
 -- there is a sort and a flag for each variable
 read-tree-room : (t : ℕ) (c : read_tree-Start t) → (length c.args.path.sorts ≡ most_variables) × (length c.args.path.done ≡ most_variables)
@@ -217,8 +209,8 @@ read_tree-overflow_cast-ends t c =
     let room : a.path.bound ≤ length a.path.sorts = omega (arith, (read-tree-room t (goal.at.read_tree-overflow_cast-ends t c).Start).0) in
     let within : c.match-code.behind ≤ a.e = elim c.match-code.branch [
       | read_tree-in-0 w ↦ omega (arith, w.behind-is, code.2)
-      | read_tree-in-1+in_ok-behind-in-1 w ↦
-          omega (arith, w.behind-is, (kept-good left_of (whole_extent a.table.book.now 0 S a.e (vars_of a.path) a.sort c.in_ok-code.from) w.in_ok-behind-in-1.ensures).1.within)
+      | read_tree-in-1+in_ok-read_rule-in-1 w ↦
+          omega (arith, w.behind-is, (kept-good left_of (whole_extent a.table.book.now 0 S a.e (vars_of a.path) a.sort c.in_ok-code.from) w.in_ok-read_rule-in-1.ensures).1.within)
       | read_tree-in-2+in_ok-x-in-2+in_ok-behind-in-2 w ↦
           let path = w.branched.result in
           let some = flags_some path.done in
@@ -253,9 +245,9 @@ read_tree-returns t c =
       | read_tree-in-0 w ↦
           rw (w.behind-is, w.ends-is, code.1) (exempt-read a.table.book.now S a.sort a.e (vars_of a.path) done a.p (a.depth - 1) inside a.ends.now
           (omega (arith, code.0, w.in-0.is)) (omega (arith, w.byte.ensures, w.if-byte-ne2.true)))
-      | read_tree-in-1+in_ok-behind-in-1 w ↦
+      | read_tree-in-1+in_ok-read_rule-in-1 w ↦
           rw (w.behind-is, w.ends-is) (rule-read a.table.book.now S a.sort a.e (vars_of a.path) done a.p (a.depth - 1) inside a.ends.now
-          (omega (arith, code.0, w.in-1.is)) (rw code.1 at w.in_ok-behind-in-1.ensures))
+          (omega (arith, code.0, w.in-1.is)) (rw code.1 at w.in_ok-read_rule-in-1.ensures))
       | read_tree-in-2+in_ok-x-in-2+in_ok-behind-in-2 w ↦
           let path = w.branched in
           let x = w.in_ok-x-in-2.x in

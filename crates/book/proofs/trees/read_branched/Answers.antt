@@ -12,7 +12,7 @@ use Rattle.book.specs.Reader.{vars_of, Branched}
 use Rattle.book.proofs.Paths.{variable-missing, not_there, twice, past, fits}
 use Rattle.book.proofs.Branches.{past_bound}
 use Rattle.book.proofs.trees.read_branched.Goals as goal
-use Rattle.book.proofs.trees.read_branched.Goals.{Start}
+use Rattle.book.proofs.trees.read_branched.Goals.{Start, then-path-x-via-then-path-x, then-path-x-via-else-path-x+then-path-x-2, then-path-x-via-else-path-x+else-path-x-2+then-binds_past}
 
 -- there is a sort for each variable that is bound
 room : (c : Start) → c.args.path.bound ≤ length c.args.path.sorts
@@ -28,33 +28,22 @@ returns-in_err-x c =
     λ sort done flags. rw (handed.1, handed.2) (variable-missing a.table.book.now S sort a.e (vars_of a.path) done a.p c.in_err-x.ensures)
 
 pub returns-then-path-x : goal.returns-then-path-x
+unfolding Branched
 returns-then-path-x c =
     let a = c.args in
     let S = symbols_in a.table.book.now a.table.at.now in
-    let vars = length-take-le a.path.bound a.path.sorts (room (goal.at.returns-then-path-x c).Start) in
-    λ sort done flags. rw c.at.ensures (not_there a.table.book.now S sort a.e (vars_of a.path) done a.p c.in_ok-x.ensures (omega (arith, vars)))
-
-pub returns-then-path-x-2 : goal.returns-then-path-x-2
-unfolding Branched
-returns-then-path-x-2 c =
-    let a = c.args in
-    let S = symbols_in a.table.book.now a.table.at.now in
-    let vars = length-take-le a.path.bound a.path.sorts (room (goal.at.returns-then-path-x-2 c).Start) in
-    λ sort done flags. rw c.at-then-path-x-2.ensures
-    (twice a.table.book.now S sort a.e (vars_of a.path) done a.p c.in_ok-x.ensures (omega (arith, vars)) (flags c.in_ok-x.x (omega arith) ∙ c.if-path-x-2.true))
-
-pub returns-then-binds_past : goal.returns-then-binds_past
-unfolding Branched
-returns-then-binds_past c =
-    let a = c.args in
-    let S = symbols_in a.table.book.now a.table.at.now in
     let x = c.in_ok-x.x in
-    let there = c.if-path-x.false in
-    let vars = length-take-le a.path.bound a.path.sorts (room (goal.at.returns-then-binds_past c).Start) in
-    let same = past_bound S a.path.sorts a.path.bound x (room (goal.at.returns-then-binds_past c).Start) there in
-    λ sort done flags. rw c.at-then-binds_past.ensures
-    (past a.table.book.now S sort a.e (vars_of a.path) done a.p c.in_ok-x.ensures (omega (arith, vars)) (flags x (omega arith) ∙ c.if-path-x-2.false)
-    (same ∙ sym c.binds_past.ensures ∙ c.if-binds_past.true))
+    let enough = room (goal.at.returns-then-path-x c).Start in
+    let vars = length-take-le a.path.bound a.path.sorts enough in
+    λ sort done flags. rw c.at.ensures (elim c.then-path-x.branch [
+      | then-path-x-via-then-path-x w ↦ not_there a.table.book.now S sort a.e (vars_of a.path) done a.p c.in_ok-x.ensures (omega (arith, vars))
+      | then-path-x-via-else-path-x+then-path-x-2 w ↦
+          twice a.table.book.now S sort a.e (vars_of a.path) done a.p c.in_ok-x.ensures (omega (arith, vars)) (flags x (omega arith) ∙ w.if-path-x-2.true)
+      | then-path-x-via-else-path-x+else-path-x-2+then-binds_past w ↦
+          let same = past_bound S a.path.sorts a.path.bound x enough w.if-path-x.false in
+          past a.table.book.now S sort a.e (vars_of a.path) done a.p c.in_ok-x.ensures (omega (arith, vars)) (flags x (omega arith) ∙ w.if-path-x-2.false)
+          (same ∙ sym w.binds_past.ensures ∙ w.if-binds_past.true)
+    ])
 
 pub returns : goal.returns
 unfolding Branched

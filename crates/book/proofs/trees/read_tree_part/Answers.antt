@@ -6,6 +6,7 @@ use Rattle.reading.proofs.Good.{good-got, length-good}
 use Rattle.symbols.specs.Table.{symbols_in}
 use Rattle.book.proofs.PartWays.{part_unopened, part-refused, part-left-over, book-left-over, part-read}
 use Rattle.book.proofs.trees.read_tree_part.Goals as goal
+use Rattle.book.proofs.trees.read_tree_part.Goals.{then-behind-e-via-then-behind-e, then-behind-e-via-else-behind-e+then-behind-table}
 
 pub returns-in_err-e : goal.returns-in_err-e
 returns-in_err-e c =
@@ -27,14 +28,15 @@ returns-in_err-behind c =
 pub returns-then-behind-e : goal.returns-then-behind-e
 returns-then-behind-e c =
     let a = c.args in
-    let told = part-left-over a.table.book.now (symbols_in a.table.book.now a.table.at.now) a.p c.in_ok-e.ensures c.in_ok-behind.ensures.0 c.if-behind-e.true in
-    rw c.at.ensures (told, tt)
-
-pub returns-then-behind-table : goal.returns-then-behind-table
-returns-then-behind-table c =
-    let a = c.args in
-    let told = book-left-over a.table.book.now (symbols_in a.table.book.now a.table.at.now) a.p c.in_ok-e.ensures c.in_ok-behind.ensures.0 c.if-behind-e.false c.if-behind-table.true in
-    rw c.at-then-behind-table.ensures (told, tt)
+    let S = symbols_in a.table.book.now a.table.at.now in
+    let read = c.in_ok-behind.ensures.0 in
+    rw c.at.ensures (
+      elim c.then-behind-e.branch [
+        | then-behind-e-via-then-behind-e w ↦ part-left-over a.table.book.now S a.p c.in_ok-e.ensures read w.if-behind-e.true
+        | then-behind-e-via-else-behind-e+then-behind-table w ↦ book-left-over a.table.book.now S a.p c.in_ok-e.ensures read w.if-behind-e.false w.if-behind-table.true
+      ],
+      tt,
+    )
 
 pub returns : goal.returns
 returns c =

@@ -1,7 +1,6 @@
 -- `trees_read` meets its contract: the part is opened, and its trees are counted.
 use mathlib.Core.Path.{sym, ◌∙◌}
 use Prim.Native.Nat.{◌+◌}
-use native.Mathlib.Nat.{zero-add}
 use native.Mathlib.Omega.{arith}
 use lib.ListN.{length, get_or}
 use Rattle.reading.proofs.Good.{good-got, length-good}
@@ -15,9 +14,6 @@ pub returns-in_default : goal.returns-in_default
 returns-in_default c =
     let a = c.args in
     (unopened_counted a.table.book.now (symbols_in a.table.book.now a.table.at.now) a.p c.in_default.ensures, omega arith)
-
-pub loop-f-init : goal.loop-f-init
-loop-f-init c = (zero-add _, omega arith)
 
 pub read_item-requires : goal.read_item-requires
 read_item-requires c =
