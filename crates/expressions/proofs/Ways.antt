@@ -75,9 +75,9 @@ module _ (expr : ExprReader) where
 
 module _ (bs : List ℕ) (base e : ℕ) (vars : List ℕ) (sort left p : ℕ) where
   -- the item ends before the variable's byte
-  pub variable-past : {b : ℕ} → b ≡ base → e < p + 2 → refusal (b + 1) e ≡ keeping left_of (variable_at bs base e vars sort left p)
+  pub variable-past : e < p + 2 → refusal (base + 1) e ≡ keeping left_of (variable_at bs base e vars sort left p)
   unfolding variable_at keeping ◌then◌
-  variable-past same h = simp (variable_at, sym (byte_past bs base e (p + 1) same (omega arith)), ◌then◌, keeping)
+  variable-past h = simp (variable_at, sym (byte_past bs base e (p + 1) refl (omega arith)), ◌then◌, keeping)
 
   module _ {x : ℕ} (byte : x ≡ get_or bs (p + 1) 0) (there : p + 2 ≤ e) where
     -- its byte is there
@@ -85,15 +85,15 @@ module _ (bs : List ℕ) (base e : ℕ) (vars : List ℕ) (sort left p : ℕ) wh
     byte_found = sym (byte_got bs base e (p + 1) byte (omega arith)) ∙ ap (got x) (add_assoc p 1 1)
 
     -- no such variable is bound
-    pub variable_unbound : {b : ℕ} → b ≡ base → length vars ≤ x → refusal (b + 4) (p + 1) ≡ keeping left_of (variable_at bs base e vars sort left p)
+    pub variable_unbound : length vars ≤ x → refusal (base + 4) (p + 1) ≡ keeping left_of (variable_at bs base e vars sort left p)
     unfolding variable_at keeping ◌then◌ refuse◌at◌if◌else◌
-    variable_unbound same h = simp (same, variable_at, byte_found, ◌then◌, refuse◌at◌if◌else◌, le-leb (length vars) x, keeping)
+    variable_unbound h = simp (variable_at, byte_found, ◌then◌, refuse◌at◌if◌else◌, le-leb (length vars) x, keeping)
 
     module _ (bound : x < length vars) where
       -- it is of another sort
-      pub variable-other : {b : ℕ} → b ≡ base → (get_or vars x 0 ≡ sort → ⊥) → refusal (b + 5) p ≡ keeping left_of (variable_at bs base e vars sort left p)
+      pub variable-other : (get_or vars x 0 ≡ sort → ⊥) → refusal (base + 5) p ≡ keeping left_of (variable_at bs base e vars sort left p)
       unfolding variable_at keeping ◌then◌ refuse◌at◌if◌else◌
-      variable-other same other = simp (same, variable_at, byte_found, ◌then◌, refuse◌at◌if◌else◌, lt-leb (length vars) x, ne_eqb (get_or vars x 0) sort, keeping)
+      variable-other other = simp (variable_at, byte_found, ◌then◌, refuse◌at◌if◌else◌, lt-leb (length vars) x, ne_eqb (get_or vars x 0) sort, keeping)
 
       -- it is of the sort asked for
       pub variable-got : get_or vars x 0 ≡ sort → got left (p + 2) ≡ keeping left_of (variable_at bs base e vars sort left p)
@@ -110,9 +110,9 @@ module _ (book places bs : List ℕ) (base e sort p : ℕ) where
   Applied = applied_at bs base symbols e sort p
 
   -- the item ends before the symbol's bytes
-  pub applied-past : {b : ℕ} → b ≡ base → e < p + 3 → refusal (b + 1) e ≡ Applied
+  pub applied-past : e < p + 3 → refusal (base + 1) e ≡ Applied
   unfolding applied_at
-  applied-past same h = sym (then-refusal _ (sym (number_past bs base e (p + 1) same (omega arith))))
+  applied-past h = sym (then-refusal _ (sym (number_past bs base e (p + 1) refl (omega arith))))
 
   module _ {f : ℕ} (number : f ≡ big_endian bs (p + 1)) (there : p + 3 ≤ e) where
     -- its number is there
@@ -120,9 +120,9 @@ module _ (book places bs : List ℕ) (base e sort p : ℕ) where
     number-found = sym (number-got bs base e (p + 1) number (omega arith)) ∙ ap (got f) (add_assoc p 1 2)
 
     -- there is no such symbol
-    pub applied_absent : {b : ℕ} → b ≡ base → length places ≤ f → refusal (b + 4) (p + 1) ≡ Applied
+    pub applied_absent : length places ≤ f → refusal (base + 4) (p + 1) ≡ Applied
     unfolding applied_at ◌then◌ refuse◌at◌if◌else◌
-    applied_absent same h = simp (same, applied_at, number-found, ◌then◌, refuse◌at◌if◌else◌, as_many, le-leb (length places) f)
+    applied_absent h = simp (applied_at, number-found, ◌then◌, refuse◌at◌if◌else◌, as_many, le-leb (length places) f)
 
     module _ {s : ℕ} (sorted : s ≡ (symbol_in book (get_or places f 0)).sort) (known : f < length places) where
       -- the code's sort is that of the symbol
@@ -130,9 +130,9 @@ module _ (book places bs : List ℕ) (base e sort p : ℕ) where
       sort-found = cc (symbol-there book places f known)
 
       -- it is of another sort
-      pub applied-other : {b : ℕ} → b ≡ base → (s ≡ sort → ⊥) → refusal (b + 5) p ≡ Applied
+      pub applied-other : (s ≡ sort → ⊥) → refusal (base + 5) p ≡ Applied
       unfolding applied_at ◌then◌ refuse◌at◌if◌else◌
-      applied-other same other = simp (same, applied_at, number-found, ◌then◌, refuse◌at◌if◌else◌, as_many, lt-leb (length places) f, sort-found, ne_eqb s sort)
+      applied-other other = simp (applied_at, number-found, ◌then◌, refuse◌at◌if◌else◌, as_many, lt-leb (length places) f, sort-found, ne_eqb s sort)
 
       -- it is of the sort asked for
       pub applied-got : s ≡ sort → got f (p + 3) ≡ Applied
@@ -182,9 +182,9 @@ module _ (bs : List ℕ) (base : ℕ) (S : Symbols) (e : ℕ) (expr : List ℕ �
   SharedKept = keeping left_of (shared_at bs base S e expr vars sort left p)
 
   -- not in this edition
-  pub shared-first-edition : {b : ℕ} → b ≡ base → (version_of bs ≡ 2 → ⊥) → refusal (b + 4) p ≡ SharedKept
+  pub shared-first-edition : (version_of bs ≡ 2 → ⊥) → refusal (base + 4) p ≡ SharedKept
   unfolding shared_at keeping
-  shared-first-edition same other = rw same (ap (keeping left_of) (sym (failed-test _ _ _ (ap not (ne_eqb (version_of bs) 2 other)))))
+  shared-first-edition other = ap (keeping left_of) (sym (failed-test _ _ _ (ap not (ne_eqb (version_of bs) 2 other))))
 
   module _ (second : version_of bs ≡ 2) where
     -- the first clause is passed
@@ -192,16 +192,16 @@ module _ (bs : List ℕ) (base : ℕ) (S : Symbols) (e : ℕ) (expr : List ℕ �
     known = ap not (eq-eqb (version_of bs) 2 second)
 
     -- as many variables are bound as may be
-    pub shared-many : {b : ℕ} → b ≡ base → most_variables ≤ length vars → refusal (b + 4) p ≡ SharedKept
+    pub shared-many : most_variables ≤ length vars → refusal (base + 4) p ≡ SharedKept
     unfolding shared_at keeping
-    shared-many same many = rw same (ap (keeping left_of) (sym (passed _ _ known ∙ failed-test _ _ _ (le-leb most_variables (length vars) many))))
+    shared-many many = ap (keeping left_of) (sym (passed _ _ known ∙ failed-test _ _ _ (le-leb most_variables (length vars) many)))
 
     module _ (few : length vars < most_variables) where
       -- the item ends before the sort byte
-      pub shared-past : {b : ℕ} → b ≡ base → e < p + 2 → refusal (b + 1) e ≡ SharedKept
+      pub shared-past : e < p + 2 → refusal (base + 1) e ≡ SharedKept
       unfolding shared_at keeping
-      shared-past same h =
-          ap (keeping left_of) (sym (passed _ _ known ∙ passed _ _ (lt-leb most_variables (length vars) few) ∙ then-refusal _ (sym (byte_past bs base e (p + 1) same (omega arith)))))
+      shared-past h =
+          ap (keeping left_of) (sym (passed _ _ known ∙ passed _ _ (lt-leb most_variables (length vars) few) ∙ then-refusal _ (sym (byte_past bs base e (p + 1) refl (omega arith)))))
 
       module _ {t : ℕ} (byte : t ≡ get_or bs (p + 1) 0) (there : p + 2 ≤ e) where
         -- reading goes on behind the sort byte
@@ -215,9 +215,9 @@ module _ (bs : List ℕ) (base : ℕ) (S : Symbols) (e : ℕ) (expr : List ℕ �
         to-sort = passed _ _ known ∙ passed _ _ (lt-leb most_variables (length vars) few) ∙ then-got _ (byte_found bs base e vars sort left p byte there)
 
         -- there is no such sort
-        pub shared-sort : {b : ℕ} → b ≡ base → last_sort < t → refusal (b + 3) (p + 1) ≡ SharedKept
+        pub shared-sort : last_sort < t → refusal (base + 3) (p + 1) ≡ SharedKept
         unfolding keeping behind-sort
-        shared-sort same h = rw same (ap (keeping left_of) (sym (to-sort ∙ failed-test _ _ _ (lt-ltb last_sort t h))))
+        shared-sort h = ap (keeping left_of) (sym (to-sort ∙ failed-test _ _ _ (lt-ltb last_sort t h)))
 
         module _ (inside : t ≤ last_sort) where
           -- it is read, and the body behind it, with one variable more
@@ -257,9 +257,9 @@ module _ (bs : List ℕ) (base : ℕ) (S : Symbols) (e : ℕ) (vars : List ℕ) 
     within = expr_at bs base S e (pred f)
 
     -- the item ends before the code
-    pub expr-past : {b : ℕ} → b ≡ base → e ≤ p → refusal (b + 1) e ≡ Kept
+    pub expr-past : e ≤ p → refusal (base + 1) e ≡ Kept
     unfolding keeping
-    expr-past same h = sym (ap (keeping left_of) (unroll f deep ∙ then-refusal _ (sym (byte_past bs base e p same h))))
+    expr-past h = sym (ap (keeping left_of) (unroll f deep ∙ then-refusal _ (sym (byte_past bs base e p refl h))))
 
     module _ (there : p < e) where
       -- further on it is deep enough one level deeper
@@ -291,9 +291,9 @@ module _ (bs : List ℕ) (base : ℕ) (S : Symbols) (e : ℕ) (vars : List ℕ) 
       expr-is-shared is = by_code is
 
       -- an unknown code, or no node is left
-      pub expr-refused : {b : ℕ} → b ≡ base → (get_or bs p 0 ≡ 0 → ⊥) → (get_or bs p 0 ≡ 4 → ⊥) → (get_or bs p 0 ≤ 3 → left ≡ 0) → refusal (b + 4) p ≡ Kept
+      pub expr-refused : (get_or bs p 0 ≡ 0 → ⊥) → (get_or bs p 0 ≡ 4 → ⊥) → (get_or bs p 0 ≤ 3 → left ≡ 0) → refusal (base + 4) p ≡ Kept
       unfolding keeping
-      expr-refused same h k none = rw same (ap (keeping left_of) (sym (by_code refl ∙ by-refused within (get_or bs p 0) h k none)))
+      expr-refused h k none = ap (keeping left_of) (sym (by_code refl ∙ by-refused within (get_or bs p 0) h k none))
 
       module _ (less : ℕ) (some : left ≡ less + 1) where
         -- a failure is a node and no more

@@ -1,7 +1,7 @@
 -- `read_expr`, `read_row`, `read_shared` and `read_body` meet their contracts: at whatever depth is enough, each is one level of the definition over the
 -- others; `read_shared` as many levels as shared parts stand directly in each other, whose codes it reads inward and whose bodies outward.
 use Prim.Native.Nat.{◌+◌, ◌-◌, ◌<◌}
-use mathlib.Core.Path.{◌≡◌, refl, sym, ap, ◌∙◌}
+use mathlib.Core.Path.{◌≡◌, sym, ap, ◌∙◌}
 use native.Mathlib.Numerals.{add-one}
 use native.Mathlib.Omega.{arith}
 use lib.ListN.{length, get_or}
@@ -19,14 +19,14 @@ pub read_expr-returns-then-e-p : goal.read_expr-returns-then-e-p
 read_expr-returns-then-e-p t c =
     let a = c.args in
     let i = a.self.now in
-    λ f h. rw c.at.ensures (expr-past i.s.now (base_of i.who) (symbols_of i) (length i.s.now) a.vars.now a.sort a.left a.p f h refl c.if-e-p.true)
+    λ f h. rw c.at.ensures (expr-past i.s.now (base_of i.who) (symbols_of i) (length i.s.now) a.vars.now a.sort a.left a.p f h c.if-e-p.true)
 
 pub read_expr-returns-in_default : goal.read_expr-returns-in_default
 read_expr-returns-in_default t c =
     let a = c.args in
     let i = a.self.now in
     let above : 4 < get_or i.s.now a.p 0 = rw (sym c.byte.ensures) c.in_default.ensures in
-    λ f h. rw c.at-in_default.ensures (expr-refused i.s.now (base_of i.who) (symbols_of i) (length i.s.now) a.vars.now a.sort a.left a.p f h c.if-e-p.false refl (omega (arith, above)) (omega (arith, above)) (λ known. omega (arith, above)))
+    λ f h. rw c.at-in_default.ensures (expr-refused i.s.now (base_of i.who) (symbols_of i) (length i.s.now) a.vars.now a.sort a.left a.p f h c.if-e-p.false (omega (arith, above)) (omega (arith, above)) (λ known. omega (arith, above)))
 
 pub read_expr-returns-in-Variable : goal.read_expr-returns-in-Variable
 read_expr-returns-in-Variable t c =
@@ -49,7 +49,7 @@ read_expr-returns-in_err-take_node-in-Fail t c =
     let is : get_or i.s.now a.p 0 ≡ 3 = sym c.byte.ensures ∙ c.in-Some.ensures ∙ ap number_of c.in-Fail.is in
     let none = c.in_err-take_node-in-Fail.ensures in
     let r = handed_on c.from_residual-in_err-take_node-in-Fail.result c.from_residual-in_err-take_node-in-Fail.ensures.1 in
-    λ f h. rw (r, none.1, none.2) (expr-refused i.s.now (base_of i.who) (symbols_of i) (length i.s.now) a.vars.now a.sort a.left a.p f h c.if-e-p.false refl (omega arith) (omega arith) (λ known. none.0))
+    λ f h. rw (r, none.1, none.2) (expr-refused i.s.now (base_of i.who) (symbols_of i) (length i.s.now) a.vars.now a.sort a.left a.p f h c.if-e-p.false (omega arith) (omega arith) (λ known. none.0))
 
 pub read_expr-returns-in_ok-take_node-in-Fail : goal.read_expr-returns-in_ok-take_node-in-Fail
 read_expr-returns-in_ok-take_node-in-Fail t c =
@@ -65,7 +65,7 @@ read_expr-returns-in_err-left-in-Choice t c =
     let is : get_or i.s.now a.p 0 ≡ 2 = sym c.byte.ensures ∙ c.in-Some.ensures ∙ ap number_of c.in-Choice.is in
     let none = c.in_err-left-in-Choice.ensures in
     let r = handed_on c.from_residual-in_err-left-in-Choice.result c.from_residual-in_err-left-in-Choice.ensures.1 in
-    λ f h. rw (r, none.1, none.2) (expr-refused i.s.now (base_of i.who) (symbols_of i) (length i.s.now) a.vars.now a.sort a.left a.p f h c.if-e-p.false refl (omega arith) (omega arith) (λ known. none.0))
+    λ f h. rw (r, none.1, none.2) (expr-refused i.s.now (base_of i.who) (symbols_of i) (length i.s.now) a.vars.now a.sort a.left a.p f h c.if-e-p.false (omega arith) (omega arith) (λ known. none.0))
 
 pub read_expr-returns-in_ok-left-in-Choice : goal.read_expr-returns-in_ok-left-in-Choice
 read_expr-returns-in_ok-left-in-Choice t c =
@@ -81,7 +81,7 @@ read_expr-returns-in_err-left-in-Apply t c =
     let is : get_or i.s.now a.p 0 ≡ 1 = sym c.byte.ensures ∙ c.in-Some.ensures ∙ ap number_of c.in-Apply.is in
     let none = c.in_err-left-in-Apply.ensures in
     let r = handed_on c.from_residual.result c.from_residual.ensures.1 in
-    λ f h. rw (r, none.1, none.2) (expr-refused i.s.now (base_of i.who) (symbols_of i) (length i.s.now) a.vars.now a.sort a.left a.p f h c.if-e-p.false refl (omega arith) (omega arith) (λ known. none.0))
+    λ f h. rw (r, none.1, none.2) (expr-refused i.s.now (base_of i.who) (symbols_of i) (length i.s.now) a.vars.now a.sort a.left a.p f h c.if-e-p.false (omega arith) (omega arith) (λ known. none.0))
 
 pub read_expr-read_row-requires : goal.read_expr-read_row-requires
 read_expr-read_row-requires t c =
@@ -137,13 +137,13 @@ pub read_shared-returns-then-byte-ne2 : goal.read_shared-returns-then-byte-ne2
 read_shared-returns-then-byte-ne2 t c =
     let a = c.args in
     let i = a.self.now in
-    λ f h. rw c.at.ensures (shared-first-edition i.s.now (base_of i.who) (symbols_of i) (length i.s.now) (expr_in i f) a.vars.now a.sort a.left a.p refl (omega arith))
+    λ f h. rw c.at.ensures (shared-first-edition i.s.now (base_of i.who) (symbols_of i) (length i.s.now) (expr_in i f) a.vars.now a.sort a.left a.p (omega arith))
 
 pub read_shared-returns-then-vars-ge-VARIABLES : goal.read_shared-returns-then-vars-ge-VARIABLES
 read_shared-returns-then-vars-ge-VARIABLES t c =
     let a = c.args in
     let i = a.self.now in
-    λ f h. rw c.at-then-vars-ge-VARIABLES.ensures (shared-many i.s.now (base_of i.who) (symbols_of i) (length i.s.now) (expr_in i f) a.vars.now a.sort a.left a.p (omega arith) refl (omega arith))
+    λ f h. rw c.at-then-vars-ge-VARIABLES.ensures (shared-many i.s.now (base_of i.who) (symbols_of i) (length i.s.now) (expr_in i f) a.vars.now a.sort a.left a.p (omega arith) (omega arith))
 
 pub read_shared-inward-init : goal.read_shared-inward-init
 read_shared-inward-init t c =
@@ -156,14 +156,14 @@ read_shared-returns-then-between-lt2 t c =
     let a = c.args in
     let i = a.self.now in
     let l = c.inward in
-    λ f h. rw c.at-then-between-lt2.ensures (inward_refused i.s.now (base_of i.who) (symbols_of i) (length i.s.now) a.vars.now a.sort a.left a.p l.invariant (λ expr s. shared-past i.s.now (base_of i.who) (symbols_of i) (length i.s.now) expr a.vars.now s a.left l.q (omega arith) (omega arith) refl (omega arith)) f h)
+    λ f h. rw c.at-then-between-lt2.ensures (inward_refused i.s.now (base_of i.who) (symbols_of i) (length i.s.now) a.vars.now a.sort a.left a.p l.invariant (λ expr s. shared-past i.s.now (base_of i.who) (symbols_of i) (length i.s.now) expr a.vars.now s a.left l.q (omega arith) (omega arith) (omega arith)) f h)
 
 pub read_shared-returns-then-byte-gt-LAST_SORT : goal.read_shared-returns-then-byte-gt-LAST_SORT
 read_shared-returns-then-byte-gt-LAST_SORT t c =
     let a = c.args in
     let i = a.self.now in
     let l = c.inward in
-    λ f h. rw c.at-then-byte-gt-LAST_SORT.ensures (inward_refused i.s.now (base_of i.who) (symbols_of i) (length i.s.now) a.vars.now a.sort a.left a.p l.invariant (λ expr s. shared-sort i.s.now (base_of i.who) (symbols_of i) (length i.s.now) expr a.vars.now s a.left l.q (omega arith) (omega arith) c.byte-in-inward.ensures (omega arith) refl (omega arith)) f h)
+    λ f h. rw c.at-then-byte-gt-LAST_SORT.ensures (inward_refused i.s.now (base_of i.who) (symbols_of i) (length i.s.now) a.vars.now a.sort a.left a.p l.invariant (λ expr s. shared-sort i.s.now (base_of i.who) (symbols_of i) (length i.s.now) expr a.vars.now s a.left l.q (omega arith) (omega arith) c.byte-in-inward.ensures (omega arith) (omega arith)) f h)
 
 pub read_shared-inward-preserved : goal.read_shared-inward-preserved
 read_shared-inward-preserved t c =

@@ -1,5 +1,4 @@
 -- `read_applied` meets its contract: it refuses where the number is not there, there is no such symbol or its sort is wrong.
-use mathlib.Core.Path.{refl}
 use native.Mathlib.Omega.{arith}
 use lib.ListN.{length}
 use Rattle.reading.specs.Answer.{base_of}
@@ -10,21 +9,21 @@ pub returns-then-between-lt3 : goal.returns-then-between-lt3
 returns-then-between-lt3 c =
     let a = c.args in
     let i = a.self.now in
-    rw c.at.ensures (applied-past i.book.now i.at.now i.s.now (base_of i.who) (length i.s.now) a.sort a.p refl (omega arith))
+    rw c.at.ensures (applied-past i.book.now i.at.now i.s.now (base_of i.who) (length i.s.now) a.sort a.p (omega arith))
 
 pub returns-then-self-f : goal.returns-then-self-f
 returns-then-self-f c =
     let a = c.args in
     let i = a.self.now in
     rw c.at-then-self-f.ensures (applied_absent i.book.now i.at.now i.s.now (base_of i.who) (length i.s.now) a.sort a.p
-    c.number-f.ensures.0 (omega arith) refl c.if-self-f.true)
+    c.number-f.ensures.0 (omega arith) c.if-self-f.true)
 
 pub returns-then-sort_of-sort : goal.returns-then-sort_of-sort
 returns-then-sort_of-sort c =
     let a = c.args in
     let i = a.self.now in
     rw c.at-then-sort_of-sort.ensures (applied-other i.book.now i.at.now i.s.now (base_of i.who) (length i.s.now) a.sort a.p
-    c.number-f.ensures.0 (omega arith) c.sort_of.ensures c.if-self-f.false refl c.if-sort_of-sort.true)
+    c.number-f.ensures.0 (omega arith) c.sort_of.ensures c.if-self-f.false c.if-sort_of-sort.true)
 
 pub returns : goal.returns
 returns c =

@@ -1,5 +1,4 @@
 -- `read_variable` meets its contract: it refuses where the byte is not there, the variable is not bound or its sort is wrong.
-use mathlib.Core.Path.{refl}
 use native.Mathlib.Omega.{arith}
 use lib.ListN.{length}
 use Rattle.reading.specs.Answer.{base_of}
@@ -10,21 +9,21 @@ pub returns-then-between-lt2 : goal.returns-then-between-lt2
 returns-then-between-lt2 c =
     let a = c.args in
     let i = a.self.now in
-    rw c.at.ensures (variable-past i.s.now (base_of i.who) (length i.s.now) a.vars.now a.sort a.left a.p refl (omega arith))
+    rw c.at.ensures (variable-past i.s.now (base_of i.who) (length i.s.now) a.vars.now a.sort a.left a.p (omega arith))
 
 pub returns-then-vars-x : goal.returns-then-vars-x
 returns-then-vars-x c =
     let a = c.args in
     let i = a.self.now in
     rw c.at-then-vars-x.ensures (variable_unbound i.s.now (base_of i.who) (length i.s.now) a.vars.now a.sort a.left a.p
-    c.wide_byte-x.ensures.0 (omega arith) refl c.if-vars-x.true)
+    c.wide_byte-x.ensures.0 (omega arith) c.if-vars-x.true)
 
 pub returns-then-vars-x-2 : goal.returns-then-vars-x-2
 returns-then-vars-x-2 c =
     let a = c.args in
     let i = a.self.now in
     rw c.at-then-vars-x-2.ensures (variable-other i.s.now (base_of i.who) (length i.s.now) a.vars.now a.sort a.left a.p
-    c.wide_byte-x.ensures.0 (omega arith) c.if-vars-x.false refl c.if-vars-x-2.true)
+    c.wide_byte-x.ensures.0 (omega arith) c.if-vars-x.false c.if-vars-x-2.true)
 
 pub returns : goal.returns
 returns c =
