@@ -26,7 +26,8 @@ read_expr-returns-in_default t c =
     let a = c.args in
     let i = a.self.now in
     let above : 4 < get_or i.s.now a.p 0 = rw (sym c.byte.ensures) c.in_default.ensures in
-    λ f h. rw c.at-in_default.ensures (expr-refused i.s.now (base_of i.who) (symbols_of i) (length i.s.now) a.vars.now a.sort a.left a.p f h c.if-e-p.false (omega (arith, above)) (omega (arith, above)) (λ known. omega (arith, above)))
+    λ f h. rw c.at-in_default.ensures (expr-refused i.s.now (base_of i.who) (symbols_of i) (length i.s.now) a.vars.now a.sort a.left a.p f h c.if-e-p.false
+    (omega (arith, above)) (omega (arith, above)) (λ known. omega (arith, above)))
 
 pub read_expr-returns-in-Variable : goal.read_expr-returns-in-Variable
 read_expr-returns-in-Variable t c =
@@ -49,14 +50,16 @@ read_expr-returns-in_err-take_node-in-Fail t c =
     let is : get_or i.s.now a.p 0 ≡ 3 = sym c.byte.ensures ∙ c.in-Some.ensures ∙ ap number_of c.in-Fail.is in
     let none = c.in_err-take_node-in-Fail.ensures in
     let r = handed_on c.from_residual-in_err-take_node-in-Fail.result c.from_residual-in_err-take_node-in-Fail.ensures.1 in
-    λ f h. rw (r, none.1, none.2) (expr-refused i.s.now (base_of i.who) (symbols_of i) (length i.s.now) a.vars.now a.sort a.left a.p f h c.if-e-p.false (omega arith) (omega arith) (λ known. none.0))
+    λ f h. rw (r, none.1, none.2) (expr-refused i.s.now (base_of i.who) (symbols_of i) (length i.s.now) a.vars.now a.sort a.left a.p f h c.if-e-p.false
+    (omega arith) (omega arith) (λ known. none.0))
 
 pub read_expr-returns-in_ok-take_node-in-Fail : goal.read_expr-returns-in_ok-take_node-in-Fail
 read_expr-returns-in_ok-take_node-in-Fail t c =
     let a = c.args in
     let i = a.self.now in
     let is : get_or i.s.now a.p 0 ≡ 3 = sym c.byte.ensures ∙ c.in-Some.ensures ∙ ap number_of c.in-Fail.is in
-    λ f h. expr-fail i.s.now (base_of i.who) (symbols_of i) (length i.s.now) a.vars.now a.sort a.left a.p f h c.if-e-p.false _ c.in_ok-take_node-in-Fail.ensures is
+    λ f h. expr-fail i.s.now (base_of i.who) (symbols_of i) (length i.s.now) a.vars.now a.sort a.left a.p f h c.if-e-p.false _
+    c.in_ok-take_node-in-Fail.ensures is
 
 pub read_expr-returns-in_err-left-in-Choice : goal.read_expr-returns-in_err-left-in-Choice
 read_expr-returns-in_err-left-in-Choice t c =
@@ -65,14 +68,16 @@ read_expr-returns-in_err-left-in-Choice t c =
     let is : get_or i.s.now a.p 0 ≡ 2 = sym c.byte.ensures ∙ c.in-Some.ensures ∙ ap number_of c.in-Choice.is in
     let none = c.in_err-left-in-Choice.ensures in
     let r = handed_on c.from_residual-in_err-left-in-Choice.result c.from_residual-in_err-left-in-Choice.ensures.1 in
-    λ f h. rw (r, none.1, none.2) (expr-refused i.s.now (base_of i.who) (symbols_of i) (length i.s.now) a.vars.now a.sort a.left a.p f h c.if-e-p.false (omega arith) (omega arith) (λ known. none.0))
+    λ f h. rw (r, none.1, none.2) (expr-refused i.s.now (base_of i.who) (symbols_of i) (length i.s.now) a.vars.now a.sort a.left a.p f h c.if-e-p.false
+    (omega arith) (omega arith) (λ known. none.0))
 
 pub read_expr-returns-in_ok-left-in-Choice : goal.read_expr-returns-in_ok-left-in-Choice
 read_expr-returns-in_ok-left-in-Choice t c =
     let a = c.args in
     let i = a.self.now in
     let is : get_or i.s.now a.p 0 ≡ 2 = sym c.byte.ensures ∙ c.in-Some.ensures ∙ ap number_of c.in-Choice.is in
-    λ f h. expr-choice i.s.now (base_of i.who) (symbols_of i) (length i.s.now) a.vars.now a.sort a.left a.p f h c.if-e-p.false _ c.in_ok-left-in-Choice.ensures is c.read_row-in-Choice.ensures
+    λ f h. expr-choice i.s.now (base_of i.who) (symbols_of i) (length i.s.now) a.vars.now a.sort a.left a.p f h c.if-e-p.false _
+    c.in_ok-left-in-Choice.ensures is c.read_row-in-Choice.ensures
 
 pub read_expr-returns-in_err-left-in-Apply : goal.read_expr-returns-in_err-left-in-Apply
 read_expr-returns-in_err-left-in-Apply t c =
@@ -81,7 +86,8 @@ read_expr-returns-in_err-left-in-Apply t c =
     let is : get_or i.s.now a.p 0 ≡ 1 = sym c.byte.ensures ∙ c.in-Some.ensures ∙ ap number_of c.in-Apply.is in
     let none = c.in_err-left-in-Apply.ensures in
     let r = handed_on c.from_residual.result c.from_residual.ensures.1 in
-    λ f h. rw (r, none.1, none.2) (expr-refused i.s.now (base_of i.who) (symbols_of i) (length i.s.now) a.vars.now a.sort a.left a.p f h c.if-e-p.false (omega arith) (omega arith) (λ known. none.0))
+    λ f h. rw (r, none.1, none.2) (expr-refused i.s.now (base_of i.who) (symbols_of i) (length i.s.now) a.vars.now a.sort a.left a.p f h c.if-e-p.false
+    (omega arith) (omega arith) (λ known. none.0))
 
 pub read_expr-read_row-requires : goal.read_expr-read_row-requires
 read_expr-read_row-requires t c =
@@ -96,7 +102,8 @@ read_expr-returns-in_err-f-in-Apply t c =
     let i = a.self.now in
     let is : get_or i.s.now a.p 0 ≡ 1 = sym c.byte.ensures ∙ c.in-Some.ensures ∙ ap number_of c.in-Apply.is in
     let r = handed_on c.from_residual-in_err-f-in-Apply.result c.from_residual-in_err-f-in-Apply.ensures.1 in
-    λ f h. rw r (expr-not-applied i.s.now (base_of i.who) (symbols_of i) (length i.s.now) a.vars.now a.sort a.left a.p f h c.if-e-p.false _ c.in_ok-left-in-Apply.ensures is c.in_err-f-in-Apply.ensures)
+    λ f h. rw r (expr-not-applied i.s.now (base_of i.who) (symbols_of i) (length i.s.now) a.vars.now a.sort a.left a.p f h c.if-e-p.false _
+    c.in_ok-left-in-Apply.ensures is c.in_err-f-in-Apply.ensures)
 
 pub read_expr-returns-in_ok-f-in-Apply : goal.read_expr-returns-in_ok-f-in-Apply
 read_expr-returns-in_ok-f-in-Apply t c =
@@ -105,7 +112,8 @@ read_expr-returns-in_ok-f-in-Apply t c =
     let is : get_or i.s.now a.p 0 ≡ 1 = sym c.byte.ensures ∙ c.in-Some.ensures ∙ ap number_of c.in-Apply.is in
     let applied = c.in_ok-f-in-Apply.ensures in
     let arguments = applied-arguments i.book.now i.at.now i.s.now (base_of i.who) (length i.s.now) a.sort a.p applied in
-    λ f h. expr-applied i.s.now (base_of i.who) (symbols_of i) (length i.s.now) a.vars.now a.sort a.left a.p f h c.if-e-p.false _ c.in_ok-left-in-Apply.ensures is applied (c.arguments_of.ensures.0 ∙ arguments) c.read_row.ensures
+    λ f h. expr-applied i.s.now (base_of i.who) (symbols_of i) (length i.s.now) a.vars.now a.sort a.left a.p f h c.if-e-p.false _
+    c.in_ok-left-in-Apply.ensures is applied (c.arguments_of.ensures.0 ∙ arguments) c.read_row.ensures
 
 pub read_row-returns-in_err-rest : goal.read_row-returns-in_err-rest
 read_row-returns-in_err-rest t c =
@@ -113,7 +121,8 @@ read_row-returns-in_err-rest t c =
     let i = a.self.now in
     let l = c.loop-sort in
     let r = handed_on c.from_residual.result c.from_residual.ensures.1 in
-    λ f h. rw r (row-refused (expr_in i f a.vars.now) a.sorts.now l.sort-index l.rest l.next c.loop-sort-test.true (c.in_err-rest.ensures f (omega (arith, l.invariant.0))) ∙ sym (l.invariant.1 f h))
+    λ f h. rw r (row-refused (expr_in i f a.vars.now) a.sorts.now l.sort-index l.rest l.next c.loop-sort-test.true
+    (c.in_err-rest.ensures f (omega (arith, l.invariant.0))) ∙ sym (l.invariant.1 f h))
 
 pub read_row-loop-sort-preserved : goal.read_row-loop-sort-preserved
 read_row-loop-sort-preserved t c =
@@ -121,9 +130,11 @@ read_row-loop-sort-preserved t c =
     let i = a.self.now in
     let l = c.loop-sort in
     let read = c.in_ok-rest.ensures in
-    let onward = expr_onward i.s.now (base_of i.who) (symbols_of i) (length i.s.now) a.vars.now (get_or a.sorts.now l.sort-index 0) l.rest l.next (length i.s.now) (read (length i.s.now) (omega arith)) in (
+    let onward = expr_onward i.s.now (base_of i.who) (symbols_of i) (length i.s.now) a.vars.now (get_or a.sorts.now l.sort-index 0) l.rest l.next
+    (length i.s.now) (read (length i.s.now) (omega arith)) in (
       omega (arith, l.invariant.0, onward.1),
-      λ f h. l.invariant.1 f h ∙ rw add-one (row_more (expr_in i f a.vars.now) a.sorts.now l.sort-index l.rest l.next c.loop-sort-test.true (read f (omega (arith, l.invariant.0)))),
+      λ f h. l.invariant.1 f h ∙ rw add-one (row_more (expr_in i f a.vars.now) a.sorts.now l.sort-index l.rest l.next c.loop-sort-test.true
+          (read f (omega (arith, l.invariant.0)))),
     )
 
 pub read_row-returns : goal.read_row-returns
@@ -137,13 +148,15 @@ pub read_shared-returns-then-byte-ne2 : goal.read_shared-returns-then-byte-ne2
 read_shared-returns-then-byte-ne2 t c =
     let a = c.args in
     let i = a.self.now in
-    λ f h. rw c.at.ensures (shared-first-edition i.s.now (base_of i.who) (symbols_of i) (length i.s.now) (expr_in i f) a.vars.now a.sort a.left a.p (omega arith))
+    λ f h. rw c.at.ensures (shared-first-edition i.s.now (base_of i.who) (symbols_of i) (length i.s.now) (expr_in i f) a.vars.now a.sort a.left a.p
+    (omega arith))
 
 pub read_shared-returns-then-vars-ge-VARIABLES : goal.read_shared-returns-then-vars-ge-VARIABLES
 read_shared-returns-then-vars-ge-VARIABLES t c =
     let a = c.args in
     let i = a.self.now in
-    λ f h. rw c.at-then-vars-ge-VARIABLES.ensures (shared-many i.s.now (base_of i.who) (symbols_of i) (length i.s.now) (expr_in i f) a.vars.now a.sort a.left a.p (omega arith) (omega arith))
+    λ f h. rw c.at-then-vars-ge-VARIABLES.ensures (shared-many i.s.now (base_of i.who) (symbols_of i) (length i.s.now) (expr_in i f) a.vars.now a.sort a.left
+    a.p (omega arith) (omega arith))
 
 pub read_shared-inward-init : goal.read_shared-inward-init
 read_shared-inward-init t c =
@@ -156,21 +169,25 @@ read_shared-returns-then-between-lt2 t c =
     let a = c.args in
     let i = a.self.now in
     let l = c.inward in
-    λ f h. rw c.at-then-between-lt2.ensures (inward_refused i.s.now (base_of i.who) (symbols_of i) (length i.s.now) a.vars.now a.sort a.left a.p l.invariant (λ expr s. shared-past i.s.now (base_of i.who) (symbols_of i) (length i.s.now) expr a.vars.now s a.left l.q (omega arith) (omega arith) (omega arith)) f h)
+    λ f h. rw c.at-then-between-lt2.ensures (inward_refused i.s.now (base_of i.who) (symbols_of i) (length i.s.now) a.vars.now a.sort a.left a.p l.invariant
+    (λ expr s. shared-past i.s.now (base_of i.who) (symbols_of i) (length i.s.now) expr a.vars.now s a.left l.q (omega arith) (omega arith) (omega arith)) f h)
 
 pub read_shared-returns-then-byte-gt-LAST_SORT : goal.read_shared-returns-then-byte-gt-LAST_SORT
 read_shared-returns-then-byte-gt-LAST_SORT t c =
     let a = c.args in
     let i = a.self.now in
     let l = c.inward in
-    λ f h. rw c.at-then-byte-gt-LAST_SORT.ensures (inward_refused i.s.now (base_of i.who) (symbols_of i) (length i.s.now) a.vars.now a.sort a.left a.p l.invariant (λ expr s. shared-sort i.s.now (base_of i.who) (symbols_of i) (length i.s.now) expr a.vars.now s a.left l.q (omega arith) (omega arith) c.byte-in-inward.ensures (omega arith) (omega arith)) f h)
+    λ f h. rw c.at-then-byte-gt-LAST_SORT.ensures (inward_refused i.s.now (base_of i.who) (symbols_of i) (length i.s.now) a.vars.now a.sort a.left a.p
+    l.invariant (λ expr s. shared-sort i.s.now (base_of i.who) (symbols_of i) (length i.s.now) expr a.vars.now s a.left l.q (omega arith) (omega arith)
+    c.byte-in-inward.ensures (omega arith) (omega arith)) f h)
 
 pub read_shared-inward-preserved : goal.read_shared-inward-preserved
 read_shared-inward-preserved t c =
     let a = c.args in
     let i = a.self.now in
     let l = c.inward in
-    let within = inward_within i.s.now (base_of i.who) (symbols_of i) (length i.s.now) a.vars.now a.sort a.left a.p l.invariant (omega arith) (omega arith) c.byte-in-inward.ensures (omega arith) (omega arith) in
+    let within = inward_within i.s.now (base_of i.who) (symbols_of i) (length i.s.now) a.vars.now a.sort a.left a.p l.invariant (omega arith) (omega arith)
+    c.byte-in-inward.ensures (omega arith) (omega arith) in
     let code : get_or i.s.now (l.q + 2) 0 ≡ 4 = omega arith in
     within_inward i.s.now (base_of i.who) (symbols_of i) (length i.s.now) a.vars.now a.sort a.left a.p within code (is-there i.s.now (l.q + 2) code)
 
@@ -180,8 +197,10 @@ read_shared-returns-in_err-rest t c =
     let i = a.self.now in
     let l = c.inward in
     let r = handed_on c.from_residual.result c.from_residual.ensures.1 in
-    let within = inward_within i.s.now (base_of i.who) (symbols_of i) (length i.s.now) a.vars.now a.sort a.left a.p l.invariant (omega arith) (omega arith) c.byte-in-inward.ensures (omega arith) (omega arith) in
-    let refused = within-read i.s.now (base_of i.who) (symbols_of i) (length i.s.now) a.vars.now a.sort a.left a.p {k = within.count + 1} within (omega (arith, within.place)) (omega arith) c.byte-2.ensures c.in_err-rest.ensures in
+    let within = inward_within i.s.now (base_of i.who) (symbols_of i) (length i.s.now) a.vars.now a.sort a.left a.p l.invariant (omega arith) (omega arith)
+    c.byte-in-inward.ensures (omega arith) (omega arith) in
+    let refused = within-read i.s.now (base_of i.who) (symbols_of i) (length i.s.now) a.vars.now a.sort a.left a.p {k = within.count + 1} within
+    (omega (arith, within.place)) (omega arith) c.byte-2.ensures c.in_err-rest.ensures in
     λ f h. rw r (outward_refused i.s.now (base_of i.who) (symbols_of i) (length i.s.now) a.vars.now a.sort a.left a.p refused f h)
 
 pub read_shared-loop-k-init : goal.read_shared-loop-k-init
@@ -189,8 +208,10 @@ read_shared-loop-k-init t c =
     let a = c.args in
     let i = a.self.now in
     let l = c.inward in
-    let within = inward_within i.s.now (base_of i.who) (symbols_of i) (length i.s.now) a.vars.now a.sort a.left a.p l.invariant (omega arith) (omega arith) c.byte-in-inward.ensures (omega arith) (omega arith) in
-    within-read i.s.now (base_of i.who) (symbols_of i) (length i.s.now) a.vars.now a.sort a.left a.p within (omega (arith, within.place)) (omega arith) c.byte-2.ensures c.in_ok-rest.ensures
+    let within = inward_within i.s.now (base_of i.who) (symbols_of i) (length i.s.now) a.vars.now a.sort a.left a.p l.invariant (omega arith) (omega arith)
+    c.byte-in-inward.ensures (omega arith) (omega arith) in
+    within-read i.s.now (base_of i.who) (symbols_of i) (length i.s.now) a.vars.now a.sort a.left a.p within (omega (arith, within.place)) (omega arith)
+    c.byte-2.ensures c.in_ok-rest.ensures
 
 pub read_shared-returns-in_err-rest-2 : goal.read_shared-returns-in_err-rest-2
 read_shared-returns-in_err-rest-2 t c =
@@ -198,7 +219,8 @@ read_shared-returns-in_err-rest-2 t c =
     let i = a.self.now in
     let l = c.loop-k in
     let r = handed_on c.from_residual-in_err-rest-2.result c.from_residual-in_err-rest-2.ensures.1 in
-    let refused = outward_more i.s.now (base_of i.who) (symbols_of i) (length i.s.now) a.vars.now a.sort a.left a.p {k = l.k - 1} l.invariant (omega arith) (omega arith) c.byte-t.ensures c.byte-around.ensures c.in_err-rest-2.ensures in
+    let refused = outward_more i.s.now (base_of i.who) (symbols_of i) (length i.s.now) a.vars.now a.sort a.left a.p {k = l.k - 1} l.invariant (omega arith)
+    (omega arith) c.byte-t.ensures c.byte-around.ensures c.in_err-rest-2.ensures in
     λ f h. rw r (outward_refused i.s.now (base_of i.who) (symbols_of i) (length i.s.now) a.vars.now a.sort a.left a.p refused f h)
 
 pub read_shared-loop-k-preserved : goal.read_shared-loop-k-preserved
@@ -206,11 +228,13 @@ read_shared-loop-k-preserved t c =
     let a = c.args in
     let i = a.self.now in
     let l = c.loop-k in
-    outward_more i.s.now (base_of i.who) (symbols_of i) (length i.s.now) a.vars.now a.sort a.left a.p {k = l.k - 1} l.invariant (omega arith) (omega arith) c.byte-t.ensures c.byte-around.ensures c.in_ok-rest-2.ensures
+    outward_more i.s.now (base_of i.who) (symbols_of i) (length i.s.now) a.vars.now a.sort a.left a.p {k = l.k - 1} l.invariant (omega arith) (omega arith)
+    c.byte-t.ensures c.byte-around.ensures c.in_ok-rest-2.ensures
 
 pub read_shared-returns : goal.read_shared-returns
 read_shared-returns t c =
     let a = c.args in
     let i = a.self.now in
     let l = c.loop-k in
-    outward_last i.s.now (base_of i.who) (symbols_of i) (length i.s.now) a.vars.now a.sort a.left a.p l.invariant c.loop-k-test.false c.byte-3.ensures c.read_body-2.ensures
+    outward_last i.s.now (base_of i.who) (symbols_of i) (length i.s.now) a.vars.now a.sort a.left a.p l.invariant c.loop-k-test.false c.byte-3.ensures
+    c.read_body-2.ensures

@@ -28,7 +28,8 @@ abbrev pub invariant-read_row-loop-sort : goal.invariant-read_row-loop-sort
 invariant-read_row-loop-sort l =
     (l.p ≤ l.next)
     × ((f : ℕ) → length l.self.s.now ≤ l.p + f
-    → keeping left_of (row_with (expr_in l.self f l.vars) l.sorts l.left l.p) ≡ keeping left_of (row_with (expr_in l.self f l.vars) (drop l.sort-index l.sorts) l.rest l.next))
+    → keeping left_of (row_with (expr_in l.self f l.vars) l.sorts l.left l.p) ≡ keeping left_of
+    (row_with (expr_in l.self f l.vars) (drop l.sort-index l.sorts) l.rest l.next))
 
 -- a shared part stands at q, some firsts further in
 abbrev pub invariant-read_shared-inward : goal.invariant-read_shared-inward
