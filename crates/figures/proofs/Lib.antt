@@ -7,3 +7,4 @@ pub mod Runs
 pub mod Moved
 pub mod Repeated
 pub mod BookWays
+pub mod Told

@@ -39,10 +39,12 @@ use Rattle.tagged.specs.Write.{Outcome as ListingBook}
 use Rattle.tagged.specs.Saved.{Outcome as SavedAs}
 use Rattle.listings.specs.Putting.{outcome_of as listed_as}
 use Rattle.circles.specs.Saving.{outcome_of as saved_by}
-use Rattle.tallies.specs.InCode.{Less}
-use Rattle.figures.specs.declared.Figured.{Figured}
+use Rattle.tallies.specs.declared.Refusal.{Refusal as FigureRefusal}
+use Rattle.tallies.specs.InCode.{Less, reading_of as tallied_as}
+use Rattle.tallies.proofs.Told.{same_told as same_tallied}
 use Rattle.figures.specs.Figures.{Outcome as Figures}
 use Rattle.figures.specs.InCode.{after as figured_as}
+use Rattle.figures.proofs.Told.{same_figured}
 use Rattle.run.specs.declared.whole.Outcome.{Outcome as CodeOutcome}
 use Rattle.run.specs.declared.whole.Owned.{Owned}
 use Rattle.run.specs.Outcomes.{after}
@@ -170,9 +172,9 @@ one-saved r r' row row' one other =
     (ap back same, ap (λ (o : SavedAs). o.row) same)
 
 -- what is answered of an answer's symbols, and the totals after it
-pub one_added : {t : Reading ℕ} {left : List ℕ} (r r' : Either (ℕ × ℕ) Refusal) (row' row'' : List ℕ)
-    → (reading_of r ≡ t) × (row' ≡ left) → (reading_of r' ≡ t) × (row'' ≡ left) → (r ≡ r') × (row' ≡ row'')
-one_added r r' row' row'' one other = (one_reading r r' one.0 other.0, one_value one.1 other.1)
+pub one_added : {t : Reading ℕ} {left : List ℕ} (r r' : Either ℕ FigureRefusal) (row' row'' : List ℕ)
+    → (tallied_as r ≡ t) × (row' ≡ left) → (tallied_as r' ≡ t) × (row'' ≡ left) → (r ≡ r') × (row' ≡ row'')
+one_added r r' row' row'' one other = (same_tallied r r' (one_value one.0 other.0), one_value one.1 other.1)
 
 -- totals from which so many were taken
 pub one_less : {many : ℕ → ℕ} (row row' row'' : List ℕ) → Less row many row' → Less row many row'' → row' ≡ row''
@@ -182,10 +184,8 @@ one_less row row' row'' one other =
     one.total f inside ∙ sym (other.total f inside)
 
 -- what the index figures hand back, and the totals after it
-pub one_figured : {t : Figures} (r r' : Figured) (row row' : List ℕ) → figured_as r row ≡ t → figured_as r' row' ≡ t → (r ≡ r') × (row ≡ row')
-one_figured r r' row row' one other =
-    let same = one_value one other in
-    (ap (λ (o : Figures). record { number = o.number; place = o.place }) same, ap (λ (o : Figures). o.row) same)
+pub one_figured : {t : Figures} (r r' : Either (Unit {0}) FigureRefusal) (row row' : List ℕ) → figured_as r row ≡ t → figured_as r' row' ≡ t → (r ≡ r') × (row ≡ row')
+one_figured r r' row row' one other = same_figured r r' row row' (one_value one other)
 
 -- the code's result, back from the seven numbers that it means: it holds nothing else
 abbrev code_of : Result → CodeOutcome

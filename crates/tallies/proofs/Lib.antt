@@ -2,3 +2,4 @@ pub mod Exactly
 pub mod Tallying
 pub mod Taking
 pub mod TallyWays
+pub mod Told
