@@ -1,14 +1,12 @@
 -- A search, node by node.
-use mathlib.Core.Bool.{Bool, true, false, not}
+use mathlib.Core.Bool.{Bool, true, false}
 use mathlib.Core.List.{List, [], ◌∷◌}
 use mathlib.Core.Logic.{◌⊎◌, inl, inr}
 use mathlib.Core.Path.{◌≡◌, refl, sym, ap, subst, ◌∙◌}
 use Prim.Native.Nat.{ℕ, zero, suc, ◌+◌, ◌<◌, ◌≤◌}
 use native.Mathlib.Decide.{ℕ_discrete, dec_lt}
 use native.Mathlib.Omega.{arith}
-use borrow.Author.Tests.{eq-eqb, ne_eqb, ltb-true, not-true}
-use lib.Dec.{ltb, eqb}
-use lib.ListN.{length, get_or, set, length-set, replicate}
+use lib.ListN.{length, get_or, set, length-set, replicate, length-replicate}
 use lib.Seq.{get_or-set_same, get_or-set_other}
 use Rattle.nodes.specs.Nodes.{fail, Heap, at}
 use Rattle.rewriting.proofs.Heaps.{there}
@@ -16,55 +14,54 @@ use Rattle.rewriting.specs.Paths.{In, Arrow}
 use Rattle.accepted.specs.Accepted.{Path}
 use Rattle.accepted.specs.Faults.{arrows_of, returns}
 use Rattle.accepted.proofs.Circles.{path_end}
-use Rattle.accepted.proofs.Misfits.{and_both}
-use Rattle.accepted.proofs.Reaches.{arrow_in_lem, in_arrow, not-both, not-passed, returns_path, path_returns}
-use Rattle.judging.specs.Search.{Seen, is_unseen, missing, unseen, AllSeen, OnStack, Searching, Roomy, Put}
+use Rattle.accepted.proofs.Reaches.{arrow_in_lem, in_arrow, not-passed, returns_path, path_returns}
+use Rattle.judging.specs.Search.{Seen, missing, unseen, AllSeen, OnStack, Searching, Roomy, Put}
 use Rattle.judging.proofs.Unseen.{unseen-less}
 
 -- one more is seen
-see_more : (seen : List ℕ) (x y : ℕ) → x < length seen → Seen seen y → Seen (set seen x 1) y
+see_more : (seen : List Bool) (x y : ℕ) → x < length seen → Seen seen y → Seen (set seen x true) y
 see_more seen x y inside is = by (ℕ_discrete y x)
   where
-    by : Dec (y ≡ x) → Seen (set seen x 1) y
-    by (yes q) = ap (λ (k : ℕ). get_or (set seen x 1) k 0) q ∙ get_or-set_same seen x 1 0 inside
-    by (no q) = get_or-set_other seen x y 1 0 q ∙ is
+    by : Dec (y ≡ x) → Seen (set seen x true) y
+    by (yes q) = ap (λ (k : ℕ). get_or (set seen x true) k false) q ∙ get_or-set_same seen x true false inside
+    by (no q) = get_or-set_other seen x y true false q ∙ is
 
-all_more : {h : Heap} {seen : List ℕ} {y : ℕ} (x : ℕ) → x < length seen → AllSeen h seen y → AllSeen h (set seen x 1) y
+all_more : {h : Heap} {seen : List Bool} {y : ℕ} (x : ℕ) → x < length seen → AllSeen h seen y → AllSeen h (set seen x true) y
 all_more {seen = seen} x inside all = record { each = λ z a lt. see_more seen x z inside (all.each z a lt) }
 
 -- a node that is not seen is seen and put on the stack
-push : {h : Heap} {n : ℕ} {P : ℕ → Type 0} {seen stack : List ℕ} {top : ℕ} (x : ℕ) → x < length h → x < length seen → top < length stack → Path h n x
-    → Searching h n P seen stack top → Searching h n P (set seen x 1) (set stack top x) (suc top)
+push : {h : Heap} {n : ℕ} {P : ℕ → Type 0} {seen : List Bool} {stack : List ℕ} {top : ℕ} (x : ℕ) → x < length h → x < length seen → top < length stack → Path h n x
+    → Searching h n P seen stack top → Searching h n P (set seen x true) (set stack top x) (suc top)
 push {h} {n} {P} {seen} {stack} {top} x lt inside room path s = record {
   reached = λ y. reached y (ℕ_discrete y x);
   stacked = λ i. stacked i (ℕ_discrete i top);
   done = λ y. done y (ℕ_discrete y x);
 }
   where
-    reached : (y : ℕ) → Dec (y ≡ x) → Seen (set seen x 1) y → (y < length h) × Path h n y
+    reached : (y : ℕ) → Dec (y ≡ x) → Seen (set seen x true) y → (y < length h) × Path h n y
     reached y (yes q) is = subst (λ (z : ℕ). (z < length h) × Path h n z) (sym q) (lt, path)
-    reached y (no q) is = s.reached y (sym (get_or-set_other seen x y 1 0 q) ∙ is)
+    reached y (no q) is = s.reached y (sym (get_or-set_other seen x y true false q) ∙ is)
 
-    stacked : (i : ℕ) → Dec (i ≡ top) → i < suc top → Seen (set seen x 1) (get_or (set stack top x) i 0)
+    stacked : (i : ℕ) → Dec (i ≡ top) → i < suc top → Seen (set seen x true) (get_or (set stack top x) i 0)
     stacked i (yes q) b =
-        subst (λ (z : ℕ). Seen (set seen x 1) z) (sym (ap (λ (k : ℕ). get_or (set stack top x) k 0) q ∙ get_or-set_same stack top x 0 room))
-        (get_or-set_same seen x 1 0 inside)
+        subst (λ (z : ℕ). Seen (set seen x true) z) (sym (ap (λ (k : ℕ). get_or (set stack top x) k 0) q ∙ get_or-set_same stack top x 0 room))
+        (get_or-set_same seen x true false inside)
     stacked i (no q) b =
-        subst (λ (z : ℕ). Seen (set seen x 1) z) (sym (get_or-set_other stack top i x 0 q))
+        subst (λ (z : ℕ). Seen (set seen x true) z) (sym (get_or-set_other stack top i x 0 q))
         (see_more seen x (get_or stack i 0) inside (s.stacked i (elim (dec_lt i top) [ yes le ↦ le | no ge ↦ absurd (q (omega arith)) ])))
 
-    done : (y : ℕ) → Dec (y ≡ x) → Seen (set seen x 1) y → P y ⊎ (OnStack (set stack top x) (suc top) y ⊎ AllSeen h (set seen x 1) y)
+    done : (y : ℕ) → Dec (y ≡ x) → Seen (set seen x true) y → P y ⊎ (OnStack (set stack top x) (suc top) y ⊎ AllSeen h (set seen x true) y)
     done y (yes q) is = inr (inl (top, omega arith, get_or-set_same stack top x 0 room ∙ sym q))
-    done y (no q) is = on (s.done y (sym (get_or-set_other seen x y 1 0 q) ∙ is))
+    done y (no q) is = on (s.done y (sym (get_or-set_other seen x y true false q) ∙ is))
       where
-        on : P y ⊎ (OnStack stack top y ⊎ AllSeen h seen y) → P y ⊎ (OnStack (set stack top x) (suc top) y ⊎ AllSeen h (set seen x 1) y)
+        on : P y ⊎ (OnStack stack top y ⊎ AllSeen h seen y) → P y ⊎ (OnStack (set stack top x) (suc top) y ⊎ AllSeen h (set seen x true) y)
         on (inl p) = inl p
         on (inr (inl (i, b, is))) = inr (inl (i, omega arith, get_or-set_other stack top i x 0 (λ z. omega arith) ∙ is))
         on (inr (inr all)) = inr (inr (all_more x inside all))
 
 -- ---- the arrows of a node, up to the j-th
 
-pub record Putting (h : Heap) (from : ℕ) (seen stack : List ℕ) (height : ℕ) (seen' stack' : List ℕ) (top j : ℕ) : Type 0 where
+pub record Putting (h : Heap) (from : ℕ) (seen : List Bool) (stack : List ℕ) (height : ℕ) (seen' : List Bool) (stack' : List ℕ) (top j : ℕ) : Type 0 where
   pub same_seen : length seen' ≡ length seen
   pub same_stack : length stack' ≡ length stack
   pub sum : top + unseen (length h) seen' ≡ height + unseen (length h) seen
@@ -72,7 +69,7 @@ pub record Putting (h : Heap) (from : ℕ) (seen stack : List ℕ) (height : ℕ
   pub first : (i : ℕ) → i < j → i < length (arrows_of (at h from)) → get_or (arrows_of (at h from)) i 0 < length h → Seen seen' (get_or (arrows_of (at h from)) i 0)
   pub goes : (n : ℕ) → (from ≡ n) ⊎ Path h n from → Searching h n (λ y. y ≡ from) seen stack height → Searching h n (λ y. y ≡ from) seen' stack' top
 
-pub putting_first : (h : Heap) (from : ℕ) (seen stack : List ℕ) (height : ℕ) → Putting h from seen stack height seen stack height 0
+pub putting_first : (h : Heap) (from : ℕ) (seen : List Bool) (stack : List ℕ) (height : ℕ) → Putting h from seen stack height seen stack height 0
 putting_first h from seen stack height = record {
   same_seen = refl;
   same_stack = refl;
@@ -97,7 +94,7 @@ step : {h : Heap} {n from x : ℕ} → (from ≡ n) ⊎ Path h n from → Arrow 
 step {h} {n} {from} {x} (inl q) a = Path.one {n = n} (subst (λ (y : ℕ). Arrow x (at h y)) q a)
 step (inr p) a = path_end p a
 
-module _ {h : Heap} {from : ℕ} {seen stack : List ℕ} {height : ℕ} {seen' stack' : List ℕ} {top j : ℕ} (p : Putting h from seen stack height seen' stack' top j)
+module _ {h : Heap} {from : ℕ} {seen : List Bool} {stack : List ℕ} {height : ℕ} {seen' : List Bool} {stack' : List ℕ} {top j : ℕ} (p : Putting h from seen stack height seen' stack' top j)
     (x : ℕ) (is : get_or (arrows_of (at h from)) j 0 ≡ x) where
   -- the j-th is seen already, or leads outside
   pub putting_on : (x < length h → Seen seen' x) → Putting h from seen stack height seen' stack' top (j + 1)
@@ -119,28 +116,28 @@ module _ {h : Heap} {from : ℕ} {seen stack : List ℕ} {height : ℕ} {seen' s
 
   -- or is put on the stack
   pub putting_push : j < length (arrows_of (at h from)) → x < length h → x < length seen' → top < length stack' → (Seen seen' x → ⊥)
-      → Putting h from seen stack height (set seen' x 1) (set stack' top x) (top + 1) (j + 1)
+      → Putting h from seen stack height (set seen' x true) (set stack' top x) (top + 1) (j + 1)
   putting_push lt inside there room other = record {
-    same_seen = length-set seen' x 1 ∙ p.same_seen;
+    same_seen = length-set seen' x true ∙ p.same_seen;
     same_stack = length-set stack' top x ∙ p.same_stack;
     sum = omega (arith, p.sum, unseen-less (length h) x seen' inside there other);
     more = λ y s. see_more seen' x y there (p.more y s);
     first = λ i lt b c. by i (ℕ_discrete i j) lt b c;
     goes = λ n from-n s.
-        subst (Searching h n (λ y. y ≡ from) (set seen' x 1) (set stack' top x)) (let z : suc top ≡ top + 1 = omega arith in z)
+        subst (Searching h n (λ y. y ≡ from) (set seen' x true) (set stack' top x)) (let z : suc top ≡ top + 1 = omega arith in z)
         (push x inside there room (step from-n (in_arrow (at h from)
         (subst (λ (y : ℕ). In y (arrows_of (at h from))) is (arrow-at (arrows_of (at h from)) j lt)))) (p.goes n from-n s));
   }
     where
       by : (i : ℕ) → Dec (i ≡ j) → i < j + 1 → i < length (arrows_of (at h from)) → get_or (arrows_of (at h from)) i 0 < length h
-          → Seen (set seen' x 1) (get_or (arrows_of (at h from)) i 0)
+          → Seen (set seen' x true) (get_or (arrows_of (at h from)) i 0)
       by i (yes q) lt b c =
-          subst (Seen (set seen' x 1)) (sym (ap (λ (k : ℕ). get_or (arrows_of (at h from)) k 0) q ∙ is)) (get_or-set_same seen' x 1 0 there)
+          subst (Seen (set seen' x true)) (sym (ap (λ (k : ℕ). get_or (arrows_of (at h from)) k 0) q ∙ is)) (get_or-set_same seen' x true false there)
       by i (no q) lt b c =
           see_more seen' x (get_or (arrows_of (at h from)) i 0) there (p.first i (elim (dec_lt i j) [ yes le ↦ le | no ge ↦ absurd (q (omega arith)) ]) b c)
 
 -- all of them
-pub putting_last : {h : Heap} {from : ℕ} {seen stack : List ℕ} {height : ℕ} {seen' stack' : List ℕ} {top j : ℕ}
+pub putting_last : {h : Heap} {from : ℕ} {seen : List Bool} {stack : List ℕ} {height : ℕ} {seen' : List Bool} {stack' : List ℕ} {top j : ℕ}
     → Putting h from seen stack height seen' stack' top j
     → length (arrows_of (at h from)) ≤ j → Put h from seen stack height seen' stack' top
 putting_last {h} {from} {seen' = seen'} {stack'} {top} {j} p le = record {
@@ -163,17 +160,10 @@ putting_last {h} {from} {seen' = seen'} {stack'} {top} {j} p le = record {
     by y (inl q) = inr (inr (subst (AllSeen h seen') (sym q) all))
     by y (inr r) = inr r
 
--- what the code's test says
-pub is-unseen : (used x : ℕ) (seen : List ℕ) → is_unseen used seen x ≡ true → (x < used) × (Seen seen x → ⊥)
-unfolding is_unseen
-is-unseen used x seen e =
-    let (a, b) = and_both (ltb x used) (not (eqb (get_or seen x 0) 1)) e in
-    (ltb-true _ _ a, λ q. not-both (eqb (get_or seen x 0) 1) (not-true _ b) (eq-eqb (get_or seen x 0) 1 q))
-
 -- ---- the stack
 
 -- the top of the stack is taken off
-pub pop : {h : Heap} {n : ℕ} {seen stack : List ℕ} {k : ℕ} → Searching h n (λ y. ⊥) seen stack (suc k) → Searching h n (λ y. y ≡ get_or stack k 0) seen stack k
+pub pop : {h : Heap} {n : ℕ} {seen : List Bool} {stack : List ℕ} {k : ℕ} → Searching h n (λ y. ⊥) seen stack (suc k) → Searching h n (λ y. y ≡ get_or stack k 0) seen stack k
 pop {h} {n} {seen} {stack} {k} s = record { reached = s.reached; stacked = λ i lt. s.stacked i (omega arith); done = λ y is. by y (s.done y is) }
   where
     by : (y : ℕ) → ⊥ ⊎ (OnStack stack (suc k) y ⊎ AllSeen h seen y) → (y ≡ get_or stack k 0) ⊎ (OnStack stack k y ⊎ AllSeen h seen y)
@@ -186,17 +176,17 @@ pop {h} {n} {seen} {stack} {k} s = record { reached = s.reached; stacked = λ i 
     by y (inr (inr all)) = inr (inr all)
 
 -- nothing is seen yet
-pub nothing_seen : {h : Heap} {n : ℕ} {seen stack : List ℕ} → ((x : ℕ) → Seen seen x → ⊥) → Searching h n (λ y. y ≡ n) seen stack 0
+pub nothing_seen : {h : Heap} {n : ℕ} {seen : List Bool} {stack : List ℕ} → ((x : ℕ) → Seen seen x → ⊥) → Searching h n (λ y. y ≡ n) seen stack 0
 nothing_seen none = record { reached = λ x is. absurd (none x is); stacked = λ i lt. absurd (omega arith); done = λ y is. absurd (none y is) }
 
--- in a row of zeros nothing is
-pub none_seen : (k x : ℕ) → Seen (replicate k 0) x → ⊥
-none_seen zero x is = omega arith
-none_seen (suc k) zero is = omega arith
+-- in a row that says so of none, none is
+pub none_seen : (k x : ℕ) → Seen (replicate k false) x → ⊥
+none_seen zero x is = absurd (let z : ◌≡◌ {A = ℕ} 0 1 = cc in omega arith)
+none_seen (suc k) zero is = absurd (let z : ◌≡◌ {A = ℕ} 0 1 = cc in omega arith)
 none_seen (suc k) (suc x) is = none_seen k x is
 
 -- what is seen stays so
-pub all-on : {h : Heap} {seen seen' : List ℕ} {y : ℕ} → ((x : ℕ) → Seen seen x → Seen seen' x) → AllSeen h seen y → AllSeen h seen' y
+pub all-on : {h : Heap} {seen seen' : List Bool} {y : ℕ} → ((x : ℕ) → Seen seen x → Seen seen' x) → AllSeen h seen y → AllSeen h seen' y
 all-on more all = record { each = λ x a lt. more x (all.each x a lt) }
 
 -- a node with an arrow is there
@@ -210,7 +200,7 @@ path_there : {h : Heap} {y m : ℕ} → Path h y m → y < length h
 path_there {h} {y} (Path.one a) = arrow-there h y a
 path_there {h} {y} (Path.more a p) = arrow-there h y a
 
-module _ (h : Heap) (n : ℕ) (seen stack : List ℕ) (s : Searching h n (λ y. ⊥) seen stack 0) (begun : AllSeen h seen n) where
+module _ (h : Heap) (n : ℕ) (seen : List Bool) (stack : List ℕ) (s : Searching h n (λ y. ⊥) seen stack 0) (begun : AllSeen h seen n) where
   -- where the stack is empty, all that is seen has its arrows seen
   closed : (y : ℕ) → Seen seen y → AllSeen h seen y
   closed y is = by (s.done y is)
@@ -233,7 +223,7 @@ module _ (h : Heap) (n : ℕ) (seen stack : List ℕ) (s : Searching h n (λ y. 
   not-seen-returns lt other = sym (not-passed (returns h n) (λ e. other (reached-seen begun (returns_path h n e) lt)))
 
 -- while a node is not seen, there is room on the stack
-pub stack_room : {h : Heap} {from : ℕ} {seen stack : List ℕ} {height : ℕ} {seen' stack' : List ℕ} {top j : ℕ} (used x : ℕ)
+pub stack_room : {h : Heap} {from : ℕ} {seen : List Bool} {stack : List ℕ} {height : ℕ} {seen' : List Bool} {stack' : List ℕ} {top j : ℕ} (used x : ℕ)
     → Putting h from seen stack height seen' stack' top j
     → length h ≡ used → Roomy used seen stack height → x < used → (Seen seen' x → ⊥) → (x < length seen') × (top < used) × (top < length stack')
 stack_room {h} {seen = seen} {height = height} {seen' = seen'} {top = top} used x p sized roomy lt other =
@@ -244,16 +234,16 @@ stack_room {h} {seen = seen} {height = height} {seen' = seen'} {top = top} used 
     (there, low, omega (arith, low, p.same_stack, roomy.high))
 
 -- no more than all are not marked
-pub unseen_most : (n : ℕ) (seen : List ℕ) → unseen n seen ≤ n
+pub unseen_most : (n : ℕ) (seen : List Bool) → unseen n seen ≤ n
 unfolding unseen missing
 unseen_most zero seen = omega arith
-unseen_most (suc n) seen = by (eqb (get_or seen n 0) 1) (unseen_most n seen)
+unseen_most (suc n) seen = by (get_or seen n false) (unseen_most n seen)
   where
-    by : (b : Bool) → unseen n seen ≤ n → (elim b [ true ↦ 0 | false ↦ 1 ]) + unseen n seen ≤ suc n
+    by : (b : Bool) → unseen n seen ≤ n → missing b + unseen n seen ≤ suc n
     by true le = omega arith
     by false le = omega arith
 
-module _ {h : Heap} {from : ℕ} {seen stack : List ℕ} {height : ℕ} {seen' stack' : List ℕ} {top : ℕ} (used : ℕ)
+module _ {h : Heap} {from : ℕ} {seen : List Bool} {stack : List ℕ} {height : ℕ} {seen' : List Bool} {stack' : List ℕ} {top : ℕ} (used : ℕ)
     (p : Put h from seen stack height seen' stack' top) (sized : length h ≡ used) where
   -- the sum stays
   pub put-sum : top + unseen used seen' ≡ height + unseen used seen
@@ -264,10 +254,28 @@ module _ {h : Heap} {from : ℕ} {seen stack : List ℕ} {height : ℕ} {seen' s
   put-room r = record { long = omega (arith, p.same_seen, r.long); high = omega (arith, p.same_stack, r.high); count = omega (arith, put-sum, r.count) }
 
 -- what the code answers in the end
-pub search_says : (h : Heap) (n : ℕ) (seen stack : List ℕ) (v : ℕ) → Searching h n (λ y. ⊥) seen stack 0 → AllSeen h seen n → n < length h
-    → v ≡ get_or seen n 0 → eqb v 1 ≡ returns h n
-search_says h n seen stack v s all lt is = by (ℕ_discrete v 1)
-  where
-    by : Dec (v ≡ 1) → eqb v 1 ≡ returns h n
-    by (yes q) = eq-eqb v 1 q ∙ seen-returns h n seen stack s all (sym is ∙ q)
-    by (no q) = ne_eqb v 1 q ∙ not-seen-returns h n seen stack s all lt (λ z. q (is ∙ z))
+pub search_says : (h : Heap) (n : ℕ) (seen : List Bool) (stack : List ℕ) (v : Bool) → Searching h n (λ y. ⊥) seen stack 0 → AllSeen h seen n → n < length h
+    → v ≡ get_or seen n false → v ≡ returns h n
+search_says h n seen stack true s all lt is = seen-returns h n seen stack s all (sym is)
+search_says h n seen stack false s all lt is =
+    not-seen-returns h n seen stack s all lt (λ z. absurd (let w : ◌≡◌ {A = ℕ} 0 1 = cc in omega arith))
+
+-- the top of the stack is taken off: how the stack stood
+pub taken : {h : Heap} {n : ℕ} {seen : List Bool} {stack : List ℕ} {height : ℕ} (stack' : List ℕ) (k : ℕ) → Searching h n (λ y. ⊥) seen stack height
+    → stack' ≡ stack → height ≡ k + 1 → Searching h n (λ y. ⊥) seen stack' (suc k)
+taken {h} {n} {seen} {stack} {height} stack' k s a b =
+    let e : height ≡ suc k = omega arith in
+    rw a (subst (Searching h n (λ y. ⊥) seen stack) e s)
+
+-- ---- before the first is seen
+
+pub roomy_none : (n used height : ℕ) (stack : List ℕ) → used ≤ n → stack ≡ replicate n 0 → height ≡ 0 → Roomy used (replicate n false) stack height
+roomy_none n used height stack le is none = record {
+  long = omega (arith, length-replicate {A = Bool} n false);
+  high = omega (arith, length-replicate {A = ℕ} n 0, ap length is);
+  count = omega (arith, unseen_most used (replicate n false));
+}
+
+pub searching_none : {h : Heap} (n k height : ℕ) (stack : List ℕ) → height ≡ 0 → Searching h n (λ y. y ≡ n) (replicate k false) stack height
+searching_none {h} n k height stack none =
+    subst (Searching h n (λ y. y ≡ n) (replicate k false) stack) (sym none) (nothing_seen (none_seen k))
