@@ -7,8 +7,7 @@ use lib.ListN.{length, get_or, drop, replicate, length-drop, length-replicate, l
 use lib.Seq.{drop-cons, drop-drop, length-take-le, get_or-drop}
 use Rattle.tagged.specs.Listing.{Broader}
 use Rattle.terms.specs.Places.{bytes_of}
-use Rattle.terms.specs.TermRows.{broader_rows, opens_from, all_terms, filled_to, refused_as, held_as}
-use Rattle.terms.specs.declared.terms.Terms.{Terms}
+use Rattle.terms.specs.TermRows.{broader_rows, opens_from, all_terms, filled_to, Terms, refused_as, held_as}
 
 -- ---- nothing but 0
 

@@ -15,10 +15,9 @@ use Rattle.terms.specs.Places.{end_of, bytes_of}
 use Rattle.tagged.specs.Terms.{rules_for}
 use Rattle.tagged.specs.Laid.{laid}
 use Rattle.tagged.specs.Write.{passes}
-use Rattle.terms.specs.TermRows.{broader_rows, Fitting, TermsAs, terms_told, refused_as, held_as}
+use Rattle.terms.specs.TermRows.{broader_rows, Terms, Fitting, TermsAs, terms_told, refused_as, held_as}
 use Rattle.terms.specs.Gathering.{FewHeadings, Within, LineTaken, RoomFor, within_by}
 use Rattle.terms.specs.declared.terms.Sum.{Sum}
-use Rattle.terms.specs.declared.terms.Terms.{Terms}
 use Rattle.tagged.proofs.Accepted.{row_count_lem}
 use Rattle.terms.proofs.LineWays.{line-at, line-cut-at, lines_past}
 use Rattle.tagged.proofs.Sizes.{heading_bytes, all_bytes, Short, book-bytes, passes-row, passes-bytes, passes_none}

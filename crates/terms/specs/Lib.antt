@@ -1,5 +1,6 @@
 pub mod Places
 pub mod InCode
+pub mod Refusals
 pub mod TermRows
 pub mod Gathering
 pub mod Judging

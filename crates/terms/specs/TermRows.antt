@@ -1,13 +1,14 @@
 -- How the code holds what a listing says of broader terms: in two rows of numbers.
-use Rattle.std.specs.Prelude.{true, false, ◌≡◌, List, [], ◌∷◌, ◌++◌, ℕ, zero, suc, ◌+◌, ◌-◌, ◌≤◌, ◌<◌, length, get_or, replicate}
+use Rattle.std.specs.Prelude.{Result, Ok, Err, true, false, ◌≡◌, List, [], ◌∷◌, ◌++◌, ℕ, zero, suc, ◌+◌, ◌-◌, ◌≤◌, ◌<◌, length, get_or, replicate}
 use Rattle.reading.specs.Reading.{Reading, got, refusal}
 use Rattle.tagged.specs.Listing.{Broader}
 use Rattle.tagged.specs.Terms.{rules_for}
 use Rattle.tagged.specs.Laid.{laid}
 use Rattle.tagged.specs.Write.{passes}
 use Rattle.terms.specs.Places.{bytes_of}
-use Rattle.terms.specs.declared.terms.Terms.{Terms}
-use Rattle.terms.specs.declared.judge.Verdict.{Verdict}
+use Rattle.terms.specs.Refusals.{number_of}
+use Rattle.terms.specs.declared.terms.Terms.{Terms as Rows}
+use Rattle.terms.specs.declared.faults.Refusal.{Refusal}
 
 -- the broader terms of n headings, from heading x on: those of x stand in `to` from place from[x] to place from[x + 1], in listing order
 unfoldable pub broader_rows : List ℕ → List ℕ → ℕ → ℕ → Broader
@@ -30,11 +31,22 @@ pub record HoldTerms (from to : List ℕ) (n : ℕ) : Type 0 where
   pub inside : (i : ℕ) → i < get_or from n 0 → get_or to i 0 < n
 
 -- what the judge of a listing tells: the refusal, or how many headings there are
-abbrev pub JudgedAs : Verdict → Reading Broader → Type 0
-JudgedAs j (refusal c line) = (j.number ≡ c) × (j.line ≡ line)
-JudgedAs j (got broader n) = (j.number ≡ 0) × (j.headings ≡ length broader)
+abbrev pub JudgedAs : Result ℕ Refusal → Reading Broader → Type 0
+JudgedAs (Err r) (refusal c line) = (number_of r.fault ≡ c) × (r.line ≡ line)
+JudgedAs (Err r) (got broader n) = ⊥
+JudgedAs (Ok headings) (refusal c line) = ⊥
+JudgedAs (Ok headings) (got broader n) = headings ≡ length broader
 
 -- ---- what is told of a listing's terms
+
+-- 0, how many headings there are, the size of their book and the two rows; or the number of a refusal and its line
+pub record Terms : Type 0 where
+  pub number : ℕ
+  pub line : ℕ
+  pub headings : ℕ
+  pub size : ℕ
+  pub from : List ℕ
+  pub to : List ℕ
 
 -- where the terms of each heading open, from place k on, and where the last ones end
 unfoldable pub opens_from : ℕ → Broader → List ℕ
@@ -53,6 +65,11 @@ filled_to many l = l ++ replicate (many - length l) 0
 -- a refusal: "nothing is written", and the rows stay empty
 abbrev pub refused_as : ℕ → ℕ → Terms
 refused_as c line = record { number = c; line = line; headings = 0; size = 0; from = replicate 342 0; to = replicate most_terms 0 }
+
+-- the code's answer in these words
+abbrev pub told_of : Result Rows Refusal → Terms
+told_of (Ok t) = record { number = 0; line = 0; headings = t.headings; size = t.size; from = t.from; to = t.to }
+told_of (Err r) = refused_as (number_of r.fault) r.line
 
 -- the size of the book, and the two rows
 abbrev pub held_as : Broader → Terms

@@ -10,15 +10,8 @@ ghost use Rattle.terms.specs.Judging.{kind_of, worth, FormsAs, twice_from, name_
 ghost use Rattle.terms.specs.Judging.{mirror_lines, next_heading, mirror_in, wants, unmirrored_from};
 ghost use Rattle.terms.specs.Meeting.{Under, Met};
 
+use super::faults::{Fault, Refusal};
 use super::lines::{Form, form_of, line_end, same};
-
-// 0 and how many headings there are, or the refusal and its line.
-#[derive(Clone, Copy)]
-pub struct Verdict {
-    pub number: u8,
-    pub line: usize,
-    pub headings: usize,
-}
 
 // How many lines are good, whether one behind them is not, and how many headings there are.
 #[derive(Clone, Copy)]
@@ -735,45 +728,25 @@ fn first_unmirrored(s: &[u8]) -> usize
     0
 }
 
-// The first fault of a listing, if it has one.
-pub(crate) fn judged(s: &[u8]) -> Verdict
+// How many headings a good listing has, or the first fault of one that is not.
+pub(crate) fn judged(s: &[u8]) -> Result<usize, Refusal>
     ensures { JudgedAs result (broader_in s.now) }
 {
     if s.len() == 0 {
-        return Verdict {
-            number: 40,
-            line: 1,
-            headings: 0,
-        };
+        return Err(Fault::BadLine.at(1));
     }
     let f = forms_of(s);
     let lines = f.lines;
     let twice = first_twice(s, lines);
     if twice != 0 {
-        return Verdict {
-            number: 41,
-            line: twice,
-            headings: 0,
-        };
+        return Err(Fault::HeadingTwice.at(twice));
     }
     if f.bad {
-        return Verdict {
-            number: 40,
-            line: lines + 1,
-            headings: 0,
-        };
+        return Err(Fault::BadLine.at(lines + 1));
     }
     let line = first_unmirrored(s);
     if line != 0 {
-        return Verdict {
-            number: 42,
-            line,
-            headings: 0,
-        };
+        return Err(Fault::NoMirror.at(line));
     }
-    Verdict {
-        number: 0,
-        line: 0,
-        headings: f.headings,
-    }
+    Ok(f.headings)
 }

@@ -3,10 +3,11 @@ ghost use Rattle.std.specs.Prelude.{◌≡◌, ◌+◌, ◌≤◌, ◌<◌, leng
 ghost use Rattle.tagged.specs.Lines.{line_of, lines_of};
 ghost use Rattle.terms.specs.Places.{bytes_of};
 ghost use Rattle.tagged.specs.Listing.{number_of, headings_of, broader_in};
-ghost use Rattle.terms.specs.TermRows.{TermsAs, terms_told, refused_as, most_headings};
+ghost use Rattle.terms.specs.TermRows.{TermsAs, terms_told, told_of, most_headings};
 ghost use Rattle.terms.specs.Gathering.{AllNoted, RoomToNote, LineNoted};
 ghost use Rattle.terms.specs.Gathering.{FewHeadings, Within, RoomFor, LineTaken, grown_by, sum_opened, sum_added, within_by};
 
+use super::faults::{Fault, Refusal};
 use super::judge::judged;
 use super::lines::{Form, form_of, line_end, same};
 use limits::Limits;
@@ -23,29 +24,13 @@ pub const TERMS: usize = 2736;
 // "64 nodes in one expression": the rule for all terms above a heading has 4 k - 1, for k broader terms.
 const OWN: usize = 16;
 
-// 0, how many headings there are, the size of their book and the two rows; or the refusal and its line.
+// How many headings there are, the size of their book, and the two rows.
 #[derive(Clone, Copy)]
 pub struct Terms {
-    pub number: u8,
-    pub line: usize,
     pub headings: usize,
     pub size: usize,
     pub from: [u16; ROWS],
     pub to: [u16; TERMS],
-}
-
-// "Nothing is written": the rows stay empty.
-fn refused(number: u8, line: usize) -> Terms
-    ensures { result ≡ refused_as number line }
-{
-    Terms {
-        number,
-        line,
-        headings: 0,
-        size: 0,
-        from: [0u16; ROWS],
-        to: [0u16; TERMS],
-    }
 }
 
 // One heading more is noted, if the line from `at` to its newline at `end` is a heading's own.
@@ -214,9 +199,9 @@ fn is_within(sum: Sum) -> bool
 }
 
 // The terms of a good listing, in one pass over its lines; 43 as soon as a size is passed.
-fn gathered(s: &[u8]) -> Terms
+fn gathered(s: &[u8]) -> Result<Terms, Refusal>
     requires { FewHeadings (broader_in s.now) }
-    ensures { (result ≡ terms_told (broader_in s.now)) × TermsAs result (broader_in s.now) }
+    ensures { (told_of result ≡ terms_told (broader_in s.now)) × TermsAs (told_of result) (broader_in s.now) }
 {
     let mut opens = [0usize; HEADINGS];
     let mut ends = [0usize; HEADINGS];
@@ -235,30 +220,25 @@ fn gathered(s: &[u8]) -> Terms
         let end = line_end(s, at);
         sum = take_line(s, &opens, &ends, count, at, end, sum, &mut from, &mut to);
         if !is_within(sum) {
-            return refused(43, 0);
+            return Err(Fault::Size.at(0));
         }
         at = end + 1;
     }
-    Terms {
-        number: 0,
-        line: 0,
+    Ok(Terms {
         headings: sum.headings,
         size: sum.size,
         from,
         to,
-    }
+    })
 }
 
 // 40 to 42 and, for the sizes of document 01, 43; else the terms.
-pub fn terms_of(s: &[u8]) -> Terms
-    ensures { (result ≡ terms_told (broader_in s.now)) × TermsAs result (broader_in s.now) }
+pub fn terms_of(s: &[u8]) -> Result<Terms, Refusal>
+    ensures { (told_of result ≡ terms_told (broader_in s.now)) × TermsAs (told_of result) (broader_in s.now) }
 {
-    let j = judged(s);
-    if j.number != 0 {
-        return refused(j.number, j.line);
-    }
-    if HEADINGS < j.headings {
-        return refused(43, 0);
+    let headings = judged(s)?;
+    if HEADINGS < headings {
+        return Err(Fault::Size.at(0));
     }
     gathered(s)
 }

@@ -11,17 +11,17 @@ use Rattle.terms.proofs.judge.judged.Goals as goal
 pub returns-then-s-eq0 : goal.returns-then-s-eq0
 returns-then-s-eq0 c =
     let a = c.args in
-    rw (judge-empty a.s.now c.if-s-eq0.true) (refl, refl)
+    rw c.at.ensures (rw (judge-empty a.s.now c.if-s-eq0.true) (refl, refl))
 
 pub returns-then-twice-ne0 : goal.returns-then-twice-ne0
 returns-then-twice-ne0 c =
     let s = c.args.s.now in
     let f = c.forms_of-f.ensures in
     let t = rw f.good at c.first_twice-twice.ensures in
-    rw (judge-twice s c.if-s-eq0.false (λ e. c.if-twice-ne0.true (t ∙ e))) (refl, t)
+    rw c.at-then-twice-ne0.ensures (rw (judge-twice s c.if-s-eq0.false (λ e. c.if-twice-ne0.true (t ∙ e))) (refl, t))
 
-pub overflow_add-result : goal.overflow_add-result
-overflow_add-result c =
+pub overflow_add-lines : goal.overflow_add-lines
+overflow_add-lines c =
     let s = c.args.s.now in
     let f = c.forms_of-f.ensures in
     let fits : c.forms_of-f.result.lines + 1 ≤ length s + 2 = omega (arith, f.good, good-most 0 (lines_of s), lines_few s) in
@@ -32,7 +32,7 @@ returns-then-f c =
     let s = c.args.s.now in
     let f = c.forms_of-f.ensures in
     let t = rw f.good at c.first_twice-twice.ensures in
-    rw (judge-bad s c.if-s-eq0.false (sym t ∙ c.if-twice-ne0.false) (sym f.bad ∙ c.if-f.true)) (refl, omega (arith, f.good))
+    rw c.at-then-f.ensures (rw (judge-bad s c.if-s-eq0.false (sym t ∙ c.if-twice-ne0.false) (sym f.bad ∙ c.if-f.true)) (refl, omega (arith, f.good)))
 
 pub returns-then-line-ne0 : goal.returns-then-line-ne0
 returns-then-line-ne0 c =
@@ -40,7 +40,7 @@ returns-then-line-ne0 c =
     let f = c.forms_of-f.ensures in
     let t = rw f.good at c.first_twice-twice.ensures in
     let u = c.first_unmirrored-line.ensures in
-    rw (judge_unmirrored s c.if-s-eq0.false (sym t ∙ c.if-twice-ne0.false) (sym f.bad ∙ c.if-f.false) (λ e. c.if-line-ne0.true (u ∙ e))) (refl, u)
+    rw c.at-then-line-ne0.ensures (rw (judge_unmirrored s c.if-s-eq0.false (sym t ∙ c.if-twice-ne0.false) (sym f.bad ∙ c.if-f.false) (λ e. c.if-line-ne0.true (u ∙ e))) (refl, u))
 
 pub returns : goal.returns
 returns c =
@@ -49,4 +49,4 @@ returns c =
     let t = rw f.good at c.first_twice-twice.ensures in
     let u = c.first_unmirrored-line.ensures in
     rw (judge-good s c.if-s-eq0.false (sym t ∙ c.if-twice-ne0.false) (sym f.bad ∙ c.if-f.false) (sym u ∙ c.if-line-ne0.false))
-    (refl, f.headings c.if-f.false ∙ sym (rows-many (whole s c.if-s-eq0.false) (length (headings_of (lines_of s))) 0))
+    (f.headings c.if-f.false ∙ sym (rows-many (whole s c.if-s-eq0.false) (length (headings_of (lines_of s))) 0))

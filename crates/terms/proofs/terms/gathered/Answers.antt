@@ -43,7 +43,7 @@ returns-then-not-is_within c =
     let took = c.take_line-sum in
     let next = going_on_lem s loop.at loop.sum loop.from loop.to g there loop.invariant.1 took.result _ _ (rw end at took.ensures) in
     let over = sym c.is_within.ensures ∙ c.if-not-is_within.true in
-    rw c.refused.ensures (told_over s _ took.result _ _ next over)
+    rw c.at.ensures (told_over s _ took.result _ _ next over)
 
 pub overflow_add-at : goal.overflow_add-at
 overflow_add-at c =
