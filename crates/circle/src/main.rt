@@ -27,15 +27,16 @@ fn show_saved(rt: &impl Print, listing: &[u8]) -> io::Result<()> {
         return println!(rt; "J");
     }
     let mut row = [0u16; HEADINGS];
-    let r = save_listing(listing, &mut row);
-    println!(rt; "R {} {} {} {}", r.number, r.line, r.headings, r.circle)?;
-    if r.number != 0 {
-        return Ok(());
-    }
-    if r.circle == 0 {
-        show_levels(rt, listing, &row)
-    } else {
-        show_circle(rt, listing, &row, r.circle)
+    match save_listing(listing, &mut row) {
+        Ok(s) => {
+            println!(rt; "R 0 0 {} {}", s.headings, s.circle)?;
+            if s.circle == 0 {
+                show_levels(rt, listing, &row)
+            } else {
+                show_circle(rt, listing, &row, s.circle)
+            }
+        }
+        Err(r) => println!(rt; "R {} {} 0 0", r.number(), r.line),
     }
 }
 

@@ -12,10 +12,9 @@ use Rattle.tagged.specs.Listing.{Broader, broader_in}
 use Rattle.tagged.specs.Levels.{longest, chains, levels}
 use Rattle.tagged.specs.Circle.{way_to, circle}
 use Rattle.tagged.specs.Write.{passes}
-use Rattle.terms.specs.TermRows.{HoldTerms, Fitting, TermsAs}
+use Rattle.terms.specs.TermRows.{HoldTerms, Terms, Fitting, TermsAs}
 use Rattle.tagged.specs.Saved.{Outcome, refusing, over, answered, judged, saved_as}
 use Rattle.circles.specs.Saving.{held, PutLevels, SameRow, AnsweredAs, way_from}
-use Rattle.terms.specs.declared.terms.Terms.{Terms}
 use Rattle.tagged.proofs.Refused.{Numbered, refused, numbered}
 use Rattle.circles.proofs.MarkWays.{way-start, way-length}
 

@@ -1,5 +1,5 @@
 -- What the code of `save_listing` keeps on its way. For contracts of inner functions.
-use Rattle.std.specs.Prelude.{Bool, true, false, ◌&&◌, ◌≡◌, List, [], ◌∷◌, ℕ, zero, suc, min, ◌≤◌, ◌<◌, leb, length, get_or}
+use Rattle.std.specs.Prelude.{Option, Some, None, Result, Ok, Err, Bool, true, false, ◌&&◌, ◌≡◌, List, [], ◌∷◌, ℕ, zero, suc, min, ◌≤◌, ◌<◌, leb, length, get_or}
 use Rattle.std.proofs.Math.Option.{none, some}
 use Rattle.tagged.specs.Listing.{Broader}
 use Rattle.tagged.specs.Hops.{broader_of, IsBroader}
@@ -7,8 +7,9 @@ use Rattle.tagged.specs.Levels.{longest, levels}
 use Rattle.tagged.specs.Circle.{some_marked, returns, lowest, way_to, circle}
 use Rattle.terms.specs.TermRows.{broader_rows, most_headings, most_terms, HoldTerms}
 use Rattle.tagged.specs.Saved.{Outcome, over, answered}
+use Rattle.terms.specs.Refusals.{number_of}
+use Rattle.terms.specs.declared.faults.Refusal.{Refusal}
 use Rattle.circles.specs.declared.circle.Saved.{Saved}
-use Rattle.circles.specs.declared.circle.Levelled.{Levelled}
 use Rattle.circles.specs.declared.circle.Shortest.{Shortest}
 
 -- the broader terms that two rows hold, of n headings
@@ -21,8 +22,9 @@ pub record Holding (from to : List ℕ) (n : ℕ) : Type 0 where
   pub places : length to ≡ most_terms
 
 -- the numbers handed back and the row, as the definition has them
-abbrev pub outcome_of : Saved → List ℕ → Outcome
-outcome_of r row = record { result = record { number = r.number; line = r.line; headings = r.headings; circle = r.circle }; row = row }
+abbrev pub outcome_of : Result Saved Refusal → List ℕ → Outcome
+outcome_of (Ok told) row = record { result = record { number = 0; line = 0; headings = told.headings; circle = told.circle }; row = row }
+outcome_of (Err r) row = record { result = record { number = number_of r.fault; line = r.line; headings = 0; circle = 0 }; row = row }
 
 -- ---- levels
 
@@ -44,10 +46,9 @@ abbrev pub RoundOf : Broader → List ℕ → List ℕ → Type 0
 RoundOf broader row next = (x : ℕ) → get_or next x 0 ≡ longest row (broader_of broader x)
 
 -- a row that settled has the levels, and there is no circle; else there is one
-pub record LevelledAs (broader : Broader) (l : Levelled) : Type 0 where
-  pub clear : l.settled ≡ true → circle broader ≡ none
-  pub row : l.settled ≡ true → SameRow l.row (levels broader)
-  pub round : l.settled ≡ false → circle broader ≡ none → ⊥
+abbrev pub LevelledAs : Broader → Option (List ℕ) → Type 0
+LevelledAs broader (Some row) = (circle broader ≡ none) × SameRow row (levels broader)
+LevelledAs broader None = circle broader ≡ none → ⊥
 
 -- the levels of n headings, over the front of a row, whoever holds them
 abbrev pub PutLevels : ℕ → List ℕ → List ℕ → List ℕ → Type 0
@@ -88,12 +89,16 @@ pub record BackIn (broader : Broader) (x best r : ℕ) : Type 0 where
   pub before : (k : ℕ) → 1 ≤ k → k < r → HopsFrom broader x k x x → ⊥
   pub back : r < best → returns broader r x ≡ true
 
--- the hops of a shortest circle and the heading that it starts with; more hops than there are headings, if there is no circle
-pub record ShortestAs (broader : Broader) (s : Shortest) : Type 0 where
+-- the hops of a shortest circle and the heading that it starts with, if there is a circle
+pub record IsShortest (broader : Broader) (s : Shortest) : Type 0 where
   pub any : 1 ≤ s.hops
-  pub first : s.hops ≤ length broader → s.first < length broader
-  pub found : s.hops ≤ length broader → circle broader ≡ some (s.first ∷ way_to broader s.first s.hops s.first)
-  pub missing : length broader < s.hops → circle broader ≡ none
+  pub few : s.hops ≤ length broader
+  pub first : s.first < length broader
+  pub found : circle broader ≡ some (s.first ∷ way_to broader s.first s.hops s.first)
+
+abbrev pub ShortestAs : Broader → Option Shortest → Type 0
+ShortestAs broader (Some s) = IsShortest broader s
+ShortestAs broader None = circle broader ≡ none
 
 -- the headings from `here` on to x, so many hops on
 unfoldable pub way_from : Broader → ℕ → ℕ → ℕ → List ℕ

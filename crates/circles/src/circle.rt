@@ -8,13 +8,11 @@ ghost use Rattle.terms.specs.TermRows.{HoldTerms};
 ghost use Rattle.circles.specs.Saving.{held, Holding, outcome_of, SameAs, PutLevels, Low, RoundOf, LevelledAs, AnsweredAs};
 ghost use Rattle.circles.specs.Saving.{SameMarks, HopFrom, NoMark, LowestAs, lower_of, BackIn, ShortestAs, way_from};
 
-use terms::{HEADINGS, ROWS, TERMS, terms_of};
+use terms::{Fault, HEADINGS, ROWS, Refusal, TERMS, terms_of};
 
-// 0 or the refusal, the line concerned, how many headings there are, and how many of them the circle has: 0 where the row holds levels.
-#[derive(Clone, Copy)]
+// What is told of a listing: how many headings it has, and how many of them its circle has, 0 where the row holds levels.
+#[derive(Clone, Copy, Debug, PartialEq, Eq)]
 pub struct Saved {
-    pub number: u8,
-    pub line: usize,
     pub headings: usize,
     pub circle: usize,
 }
@@ -87,15 +85,8 @@ fn same_row(a: &[u16; HEADINGS], b: &[u16; HEADINGS], n: usize) -> bool
     a[..n] == b[..n]
 }
 
-// Whether a round changed nothing, and the chains then.
-#[derive(Clone, Copy)]
-pub struct Levelled {
-    pub settled: bool,
-    pub row: [u16; HEADINGS],
-}
-
-// Round by round. Where one changes nothing the chains are the longest; where n + 1 rounds each change something there is a circle.
-fn levels_of(from: &[u16; ROWS], to: &[u16; TERMS], n: usize) -> Levelled
+// Round by round: the longest chains, where one changes nothing. Where n + 1 rounds each change something there is a circle, and no row.
+fn levels_of(from: &[u16; ROWS], to: &[u16; TERMS], n: usize) -> Option<[u16; HEADINGS]>
     requires { Holding from.now to.now n }
     ensures { LevelledAs (held from.now to.now n) result }
 {
@@ -103,14 +94,11 @@ fn levels_of(from: &[u16; ROWS], to: &[u16; TERMS], n: usize) -> Levelled
     for _k in 0..n + 1 {
         let next = one_round(from, to, n, &row);
         if same_row(&next, &row, n) {
-            return Levelled { settled: true, row };
+            return Some(row);
         }
         row = next;
     }
-    Levelled {
-        settled: false,
-        row,
-    }
+    None
 }
 
 // Some broader term of x has its mark set.
@@ -201,15 +189,15 @@ fn back_in(from: &[u16; ROWS], to: &[u16; TERMS], n: usize, x: usize, best: usiz
     best
 }
 
-// The hops of a shortest circle, and its first heading; n + 1 hops, if there is no circle.
-#[derive(Clone, Copy)]
-pub struct Shortest {
-    pub hops: usize,
-    pub first: usize,
+// The hops of a shortest circle, and its first heading.
+#[derive(Clone, Copy, Debug, PartialEq, Eq)]
+struct Shortest {
+    hops: usize,
+    first: usize,
 }
 
 // Heading by heading: only fewer hops than before count, so that the lowest heading stays. A circle is found at its lowest heading.
-fn shortest_circle(from: &[u16; ROWS], to: &[u16; TERMS], n: usize) -> Shortest
+fn shortest_circle(from: &[u16; ROWS], to: &[u16; TERMS], n: usize) -> Option<Shortest>
     requires { Holding from.now to.now n }
     ensures { ShortestAs (held from.now to.now n) result }
 {
@@ -222,7 +210,10 @@ fn shortest_circle(from: &[u16; ROWS], to: &[u16; TERMS], n: usize) -> Shortest
             first = x;
         }
     }
-    Shortest { hops, first }
+    if n < hops {
+        return None;
+    }
+    Some(Shortest { hops, first })
 }
 
 fn lower_of(counts: bool, b: usize, low: usize) -> usize
@@ -289,54 +280,35 @@ fn put_levels(own: &[u16; HEADINGS], n: usize, row: &mut [u16])
 }
 
 // The levels or the circle: of how many headings it is.
-fn answer(from: [u16; ROWS], to: [u16; TERMS], n: usize, row: &mut [u16]) -> usize
-    requires { (HoldTerms from to n) × (n ≤ length row.old) }
-    ensures { AnsweredAs (held from to n) result row.old row.new }
+fn answer(from: &[u16; ROWS], to: &[u16; TERMS], n: usize, row: &mut [u16]) -> usize
+    requires { (Holding from.now to.now n) × (n ≤ length row.old) }
+    ensures { AnsweredAs (held from.now to.now n) result row.old row.new }
 {
-    let l = levels_of(&from, &to, n);
-    if l.settled {
-        let own = l.row;
-        put_levels(&own, n, row);
-        return 0;
+    match levels_of(from, to, n) {
+        Some(own) => {
+            put_levels(&own, n, row);
+            0
+        }
+        None => match shortest_circle(from, to, n) {
+            Some(s) => {
+                put_way(from, to, n, s.first, s.hops, row);
+                s.hops
+            }
+            // where no level settles there is a circle
+            None => 0,
+        },
     }
-    let s = shortest_circle(&from, &to, n);
-    let hops = s.hops;
-    if n < hops {
-        return 0;
-    }
-    put_way(&from, &to, n, s.first, hops, row);
-    hops
 }
 
-// What an editor is told of a listing; "44 if the lent row of levels is shorter than the headings".
-pub fn save_listing(s: &[u8], row: &mut [u16]) -> Saved
+// What an editor is told of a listing; "44 if the lent row of levels is shorter than the headings". A refusal leaves the row as it was.
+pub fn save_listing(s: &[u8], row: &mut [u16]) -> Result<Saved, Refusal>
     ensures { outcome_of result row.new ≡ saved_as s.now row.old }
 {
-    let t = terms_of(s);
-    if t.number != 0 {
-        return Saved {
-            number: t.number,
-            line: t.line,
-            headings: 0,
-            circle: 0,
-        };
+    let t = terms_of(s)?;
+    let headings = t.headings;
+    if row.len() < headings {
+        return Err(Fault::ShortRow.at(0));
     }
-    let n = t.headings;
-    if row.len() < n {
-        return Saved {
-            number: 44,
-            line: 0,
-            headings: 0,
-            circle: 0,
-        };
-    }
-    let from = t.from;
-    let to = t.to;
-    let c = answer(from, to, n, row);
-    Saved {
-        number: 0,
-        line: 0,
-        headings: n,
-        circle: c,
-    }
+    let circle = answer(&t.from, &t.to, headings, row);
+    Ok(Saved { headings, circle })
 }

@@ -49,8 +49,10 @@ fn show_row(rt: &impl Print, input: &[u8], p: usize) -> io::Result<usize>
 fn show_book(rt: &impl Print, listing: &[u8], lent: usize) -> io::Result<()> {
     let mut room = [170u8; BYTES];
     let length = at_most(lent, BYTES);
-    let w = write_listing(listing, &mut room[0..length]);
-    println!(rt; "L {} {} {} {}", w.number, w.line, w.bytes, sum_of(&room))
+    match write_listing(listing, &mut room[0..length]) {
+        Ok(bytes) => println!(rt; "L 0 0 {bytes} {}", sum_of(&room)),
+        Err(r) => println!(rt; "L {} {} 0 {}", r.number(), r.line, sum_of(&room)),
+    }
 }
 
 // The checksum of the whole room, lent or not.
@@ -61,8 +63,10 @@ fn sum_of(room: &[u8; BYTES]) -> u64 {
 fn show_saved(rt: &impl Print, listing: &[u8], lent: usize) -> io::Result<()> {
     let mut row = [MARK; NUMBERS];
     let length = at_most(lent, NUMBERS);
-    let s = save_listing(listing, &mut row[0..length]);
-    print!(rt; "O {} {} {} {}:", s.number, s.line, s.headings, s.circle)?;
+    match save_listing(listing, &mut row[0..length]) {
+        Ok(s) => print!(rt; "O 0 0 {} {}:", s.headings, s.circle)?,
+        Err(r) => print!(rt; "O {} {} 0 0:", r.number(), r.line)?,
+    }
     show_written(rt, &row)?;
     rt.write_all(b"\n")
 }

@@ -22,9 +22,16 @@ fn show_book(rt: &impl Print, listing: &[u8]) -> io::Result<()> {
         return println!(rt; "J");
     }
     let mut room = [0u8; Limits::BOOK];
-    let w = write_listing(listing, &mut room);
-    println!(rt; "R {} {} {}", w.number, w.line, w.bytes)?;
-    show_hex(rt, first(&room, w.bytes))
+    match write_listing(listing, &mut room) {
+        Ok(bytes) => {
+            println!(rt; "R 0 0 {bytes}")?;
+            show_hex(rt, first(&room, bytes))
+        }
+        Err(r) => {
+            println!(rt; "R {} {} 0", r.number(), r.line)?;
+            show_hex(rt, &[])
+        }
+    }
 }
 
 // The first so many bytes: of the whole array, whose length needs no proof here.

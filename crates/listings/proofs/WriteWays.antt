@@ -19,9 +19,8 @@ use Rattle.tagged.specs.Terms.{term, operation, symbols_for, rules_before, exemp
 use Rattle.tagged.specs.Laid.{symbol_laid, symbols_laid, tree_laid, length_first, trees_laid, laid}
 use Rattle.tagged.specs.Write.{passes, some_over, written, book_from, refusing}
 use Rattle.terms.specs.Places.{bytes_of}
-use Rattle.terms.specs.TermRows.{broader_rows, HoldTerms, TermsAs, Fitting}
+use Rattle.terms.specs.TermRows.{broader_rows, HoldTerms, Terms, TermsAs, Fitting}
 use Rattle.listings.specs.Putting.{Put, HoldRow, HoldRows, kind_laid, kinds_laid, front_laid, rule_of, rule_laid, rules_laid, part_laid}
-use Rattle.terms.specs.declared.terms.Terms.{Terms}
 use Rattle.listings.proofs.PutWays.{put_then, put_whole, kinds-long}
 use Rattle.tagged.proofs.Refused.{numbered, number_is}
 

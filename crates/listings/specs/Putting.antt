@@ -1,5 +1,5 @@
 -- The bytes of a listing's book as the code puts them, part by part. For contracts of inner functions.
-use Rattle.std.specs.Prelude.{Bool, true, false, ◌≡◌, List, [], ◌∷◌, ◌++◌, ℕ, zero, suc, ◌+◌, ◌*◌, ◌≤◌, ◌<◌, length, get_or}
+use Rattle.std.specs.Prelude.{Result, Ok, Err, Bool, true, false, ◌≡◌, List, [], ◌∷◌, ◌++◌, ℕ, zero, suc, ◌+◌, ◌*◌, ◌≤◌, ◌<◌, length, get_or}
 use Rattle.std.proofs.lemmas.List.Edits.{sets}
 use Rattle.limits.specs.Sizes.{most_book_bytes}
 use Rattle.reading.specs.Bytes.{two_bytes}
@@ -10,7 +10,8 @@ use Rattle.tagged.specs.Terms.{nested, first_of, second_of, symbols_for, rules_f
 use Rattle.tagged.specs.Laid.{expr_laid, tree_laid, symbols_laid, length_first, laid}
 use Rattle.tagged.specs.Write.{Outcome}
 use Rattle.terms.specs.TermRows.{most_headings, most_terms, broader_rows, HoldTerms}
-use Rattle.listings.specs.declared.write.Written.{Written}
+use Rattle.terms.specs.Refusals.{number_of}
+use Rattle.terms.specs.declared.faults.Refusal.{Refusal}
 
 -- ---- putting
 
@@ -96,5 +97,6 @@ book_of from to n = laid (rules_for (broader_rows from to n 0))
 -- ---- the result
 
 -- what is handed back, and the room lent after it
-abbrev pub outcome_of : Written → List ℕ → Outcome
-outcome_of r room = record { result = record { number = r.number; line = r.line; bytes = r.bytes }; room = room }
+abbrev pub outcome_of : Result ℕ Refusal → List ℕ → Outcome
+outcome_of (Ok bytes) room = record { result = record { number = 0; line = 0; bytes = bytes }; room = room }
+outcome_of (Err r) room = record { result = record { number = number_of r.fault; line = r.line; bytes = 0 }; room = room }

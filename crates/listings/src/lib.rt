@@ -3,4 +3,4 @@
 
 mod write;
 
-pub use write::{Written, write_listing};
+pub use write::write_listing;

@@ -8,15 +8,7 @@ ghost use Rattle.terms.specs.TermRows.{broader_rows, most_headings, most_terms};
 ghost use Rattle.listings.specs.Putting.{Fits, Put, HoldRow, HoldRows, outcome_of};
 ghost use Rattle.listings.specs.Putting.{term_laid, kind_laid, kinds_laid, front_laid, size_of, next_laid, nest_laid, rule_laid, rules_laid, part_of, book_of};
 
-use terms::{ROWS, TERMS, terms_of};
-
-// What is handed back: 0 or the number of the refusal, the line concerned, and how many bytes were written.
-#[derive(Clone, Copy)]
-pub struct Written {
-    pub number: u8,
-    pub line: usize,
-    pub bytes: usize,
-}
+use terms::{Fault, ROWS, Refusal, TERMS, terms_of};
 
 // Stores a byte where there is room for it; a place past the last changes nothing.
 fn store(room: &mut [u8], at: usize, b: u8)
@@ -225,33 +217,16 @@ fn put_book(room: &mut [u8], from: &[u16; ROWS], to: &[u16; TERMS], n: usize, si
     put_trees(room, p, from, to, n, size - 5 - 9 * n);
 }
 
-// "Books from the tagged listing": writes the book of a listing into the room lent, from its first byte on, or refuses and writes nothing.
-pub fn write_listing(s: &[u8], room: &mut [u8]) -> Written
+// "Books from the tagged listing": writes the book of a listing into the room lent, from its first byte on: how many bytes it has.
+// A refusal writes nothing.
+pub fn write_listing(s: &[u8], room: &mut [u8]) -> Result<usize, Refusal>
     ensures { outcome_of result room.new ≡ book_from s.now room.old }
 {
-    let t = terms_of(s);
-    let number = t.number;
-    if number != 0 {
-        return Written {
-            number,
-            line: t.line,
-            bytes: 0,
-        };
-    }
+    let t = terms_of(s)?;
     let size = t.size;
     if room.len() < size {
-        return Written {
-            number: 43,
-            line: 0,
-            bytes: 0,
-        };
+        return Err(Fault::Size.at(0));
     }
-    let from = t.from;
-    let to = t.to;
-    put_book(room, &from, &to, t.headings, size);
-    Written {
-        number: 0,
-        line: 0,
-        bytes: size,
-    }
+    put_book(room, &t.from, &t.to, t.headings, size);
+    Ok(size)
 }

@@ -1,3 +1,4 @@
+pub mod Refusals
 pub mod LineWays
 pub mod NameWays
 pub mod TagWays

@@ -1,6 +1,4 @@
 -- `levels_of` meets its contract: the row has the chains of k rounds.
-use mathlib.Core.Path.{◌≡◌}
-use Prim.Native.Nat.{ℕ}
 use native.Mathlib.Omega.{arith}
 use Rattle.circles.specs.Saving.{held}
 use Rattle.circles.proofs.SavingRows.{held-length}
@@ -26,12 +24,10 @@ returns-then-same_row c =
     let broader = held a.from.now a.to.now a.n in
     let long = held-length a.from.now a.to.now a.n 0 in
     let alike = c.same_row.ensures.same c.if-same_row.true in
-    let next = c.one_round-next in
-    record {
-      clear = λ e. rounded_clear broader loop._k a.n loop.row next.result long loop.invariant.1 next.ensures alike;
-      row = λ e. rounded_levels broader loop._k a.n loop.row next.result long loop.invariant.1 next.ensures alike (omega arith);
-      round = λ e. absurd (let z : ◌≡◌ {A = ℕ} 0 1 = cc in omega arith);
-    }
+    let next = c.one_round-next in (
+      rounded_clear broader loop._k a.n loop.row next.result long loop.invariant.1 next.ensures alike,
+      rounded_levels broader loop._k a.n loop.row next.result long loop.invariant.1 next.ensures alike (omega arith),
+    )
 
 pub overflow_add-k-end : goal.overflow_add-k-end
 overflow_add-k-end c = omega (arith, c.requires.terms.few)
@@ -51,8 +47,4 @@ returns c =
     let loop = c.loop-k in
     let broader = held a.from.now a.to.now a.n in
     let long = held-length a.from.now a.to.now a.n 0 in
-    record {
-      clear = λ e. absurd (let z : ◌≡◌ {A = ℕ} 0 1 = cc in omega arith);
-      row = λ e. absurd (let z : ◌≡◌ {A = ℕ} 0 1 = cc in omega arith);
-      round = λ e. rounded_round broader loop._k loop.row (omega arith) loop.invariant.1;
-    }
+    rounded_round broader loop._k loop.row (omega arith) loop.invariant.1

@@ -1,6 +1,6 @@
 -- `shortest_circle` meets its contract: what is known of the headings passed.
 use mathlib.Core.Path.{◌≡◌}
-use Prim.Native.Nat.{◌+◌}
+use Prim.Native.Nat.{◌+◌, ◌≤◌}
 use native.Mathlib.Omega.{arith}
 use lib.ListN.{length}
 use Rattle.circles.specs.Saving.{held}
@@ -41,6 +41,15 @@ loop-x-preserved c =
       ],
     )
 
+pub returns-then-n-hops : goal.returns-then-n-hops
+returns-then-n-hops c =
+    let a = c.args in
+    let loop = c.loop-x in
+    let broader = held a.from.now a.to.now a.n in
+    let long = held-length a.from.now a.to.now a.n 0 in
+    let all : loop.x ≡ length broader = omega (arith, loop.invariant.0) in
+    sought_missing broader loop.hops loop.first (rw all at loop.invariant.1) (omega arith)
+
 pub returns : goal.returns
 returns c =
     let a = c.args in
@@ -49,9 +58,5 @@ returns c =
     let long = held-length a.from.now a.to.now a.n 0 in
     let all : loop.x ≡ length broader = omega (arith, loop.invariant.0) in
     let s = rw all at loop.invariant.1 in
-    record {
-      any = s.any;
-      first = s.there;
-      found = sought_found broader loop.hops loop.first s;
-      missing = sought_missing broader loop.hops loop.first s;
-    }
+    let few : loop.hops ≤ length broader = omega arith in
+    record { any = s.any; few = few; first = s.there few; found = sought_found broader loop.hops loop.first s few }
