@@ -8,7 +8,7 @@ use circles::save_listing;
 use listings::write_listing;
 use reading::{number, part_of};
 use std::io;
-use tables::{at_most, read_full, show_item, sum_of_bytes};
+use tables::{at_most, checksum_of, read_full, show_item};
 
 // How long each memory is.
 const BYTES: usize = 33000;
@@ -49,15 +49,13 @@ fn show_row(rt: &impl Print, input: &[u8], p: usize) -> io::Result<usize>
 fn show_book(rt: &impl Print, listing: &[u8], lent: usize) -> io::Result<()> {
     let mut room = [170u8; BYTES];
     let length = at_most(lent, BYTES);
-    match write_listing(listing, &mut room[0..length]) {
-        Ok(bytes) => println!(rt; "L 0 0 {bytes} {}", sum_of(&room)),
-        Err(r) => println!(rt; "L {} {} 0 {}", r.number(), r.line, sum_of(&room)),
+    let written = write_listing(listing, &mut room[0..length]);
+    // of the whole room, lent or not
+    let sum = checksum_of(&room[..]);
+    match written {
+        Ok(bytes) => println!(rt; "L 0 0 {bytes} {sum}"),
+        Err(r) => println!(rt; "L {} {} 0 {sum}", r.number(), r.line),
     }
-}
-
-// The checksum of the whole room, lent or not.
-fn sum_of(room: &[u8; BYTES]) -> u64 {
-    sum_of_bytes(room) as u64
 }
 
 fn show_saved(rt: &impl Print, listing: &[u8], lent: usize) -> io::Result<()> {
@@ -81,7 +79,7 @@ fn show_written(rt: &impl Print, row: &[u16; NUMBERS]) -> io::Result<()> {
 
 fn show_unless_mark(rt: &impl Print, n: u16) -> io::Result<()> {
     if n != MARK {
-        return show_item(rt, n as u64);
+        return show_item(rt, n);
     }
     Ok(())
 }

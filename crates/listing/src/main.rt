@@ -27,10 +27,7 @@ fn show_book(rt: &impl Print, listing: &[u8]) -> io::Result<()> {
             println!(rt; "R 0 0 {bytes}")?;
             show_hex(rt, first(&room, bytes))
         }
-        Err(r) => {
-            println!(rt; "R {} {} 0", r.number(), r.line)?;
-            show_hex(rt, &[])
-        }
+        Err(r) => println!(rt; "R {} {} 0", r.number(), r.line),
     }
 }
 
