@@ -5,4 +5,4 @@ mod make;
 mod weigh;
 
 pub use make::{Questions, load_question, load_row};
-pub use weigh::{Weighed, weigh_question, weigh_row};
+pub use weigh::{Refused, Weighed, weigh_question, weigh_row};

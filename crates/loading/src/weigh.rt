@@ -1,27 +1,25 @@
 // What questions come to before anything is made.
-ghost use Rattle.std.specs.Prelude.{◌≡◌};
-ghost use Rattle.loading.specs.Questions.{WeighTold, WeighRowTold, SumTold, refused_as};
+ghost use Rattle.std.specs.Prelude.{◌≡◌, Err};
+ghost use Rattle.loading.specs.Questions.{WeighTold, WeighRowTold, SumTold, refused, weight_of};
 
 use limits::Limits;
 use making::size_expr;
 use question::read_question;
 use reading::{Reading, between, part_of};
 
-// A refusal with its place and its question's number; or number 0, and how many nodes and choices the questions have in all.
-#[derive(Clone, Copy)]
+// How many nodes and choices questions have in all.
+#[derive(Clone, Copy, Debug, PartialEq, Eq)]
 pub struct Weighed {
-    pub number: u8,
-    pub place: usize,
-    pub question: usize,
     pub nodes: usize,
     pub choices: usize,
 }
 
-// A length, as a place.
-pub(crate) fn wide(length: u16) -> usize
-    ensures { result ≡ length }
-{
-    length as usize
+// A refusal of a question, with its place and the question's number in the row.
+#[derive(Clone, Copy, Debug, PartialEq, Eq)]
+pub struct Refused {
+    pub number: u8,
+    pub place: usize,
+    pub question: usize,
 }
 
 // One question, which is number `number` of its row.
@@ -31,26 +29,21 @@ pub fn weigh_question<'a>(
     shapes: &[u8; Limits::SYMBOLS],
     question: &'a [u8],
     number: usize,
-) -> Weighed
-    ensures { WeighTold book.now at.now shapes.now question.now number result }
+) -> Result<Weighed, Refused>
+    ensures { WeighTold book.now at.now shapes.now question.now number (weight_of result) }
 {
     match read_question(book, at, question) {
-        Reading::Refusal { number: c, place } => Weighed {
+        Reading::Refusal { number: c, place } => Err(Refused {
             number: c,
             place,
             question: number,
-            nodes: 0,
-            choices: 0,
-        },
+        }),
         Reading::Got { value: _, next: _ } => {
             let size = size_expr(shapes, question, 4);
-            Weighed {
-                number: 0,
-                place: 0,
-                question: 0,
+            Ok(Weighed {
                 nodes: size.nodes,
                 choices: size.choices,
-            }
+            })
         }
     }
 }
@@ -69,15 +62,13 @@ fn sum(a: usize, b: usize) -> usize
 }
 
 // "bytes too few or left over: 11 at 0"
-fn refused_bytes(question: usize) -> Weighed
-    ensures { result ≡ refused_as 11 0 question }
+fn refused_bytes(question: usize) -> Refused
+    ensures { weight_of (Err result) ≡ refused 11 0 question }
 {
-    Weighed {
+    Refused {
         number: 11,
         place: 0,
         question,
-        nodes: 0,
-        choices: 0,
     }
 }
 
@@ -88,35 +79,24 @@ pub fn weigh_row<'a>(
     shapes: &[u8; Limits::SYMBOLS],
     lengths: &[u16],
     questions: &'a [u8],
-) -> Weighed
-    ensures { WeighRowTold book.now at.now shapes.now lengths.now questions.now result }
+) -> Result<Weighed, Refused>
+    ensures { WeighRowTold book.now at.now shapes.now lengths.now questions.now (weight_of result) }
 {
     let mut nodes: usize = 0;
     let mut choices: usize = 0;
     let mut from: usize = 0;
-    let mut i: usize = 0;
-    while i < lengths.len() {
-        let size = wide(lengths[i]);
+    for (i, length) in lengths.iter().enumerate() {
+        let size = usize::from(*length);
         if questions.len() - from < size {
-            return refused_bytes(i);
+            return Err(refused_bytes(i));
         }
-        let one = weigh_question(book, at, shapes, part_of(questions, from, from + size), i);
-        if one.number != 0 {
-            return one;
-        }
+        let one = weigh_question(book, at, shapes, part_of(questions, from, from + size), i)?;
         nodes = sum(nodes, one.nodes);
         choices = sum(choices, one.choices);
         from += size;
-        i += 1;
     }
     if from < questions.len() {
-        return refused_bytes(between(1, i));
+        return Err(refused_bytes(between(1, lengths.len())));
     }
-    Weighed {
-        number: 0,
-        place: 0,
-        question: 0,
-        nodes,
-        choices,
-    }
+    Ok(Weighed { nodes, choices })
 }
