@@ -5,7 +5,7 @@ ghost use Rattle.loading.specs.Questions.{WeighTold, WeighRowTold, SumTold, refu
 use limits::Limits;
 use making::size_expr;
 use question::read_question;
-use reading::{Reading, between, part_of};
+use reading::{Asker, Fault, Refusal, between, part_of};
 
 // How many nodes and choices questions have in all.
 #[derive(Clone, Copy, Debug, PartialEq, Eq)]
@@ -14,11 +14,10 @@ pub struct Weighed {
     pub choices: usize,
 }
 
-// A refusal of a question, with its place and the question's number in the row.
+// A refusal of a question, with the question's number in the row.
 #[derive(Clone, Copy, Debug, PartialEq, Eq)]
 pub struct Refused {
-    pub number: u8,
-    pub place: usize,
+    pub refusal: Refusal,
     pub question: usize,
 }
 
@@ -33,12 +32,11 @@ pub fn weigh_question<'a>(
     ensures { WeighTold book.now at.now shapes.now question.now number (weight_of result) }
 {
     match read_question(book, at, question) {
-        Reading::Refusal { number: c, place } => Err(Refused {
-            number: c,
-            place,
+        Err(refusal) => Err(Refused {
+            refusal,
             question: number,
         }),
-        Reading::Got { value: _, next: _ } => {
+        Ok(_) => {
             let size = size_expr(shapes, question, 4);
             Ok(Weighed {
                 nodes: size.nodes,
@@ -66,8 +64,7 @@ fn refused_bytes(question: usize) -> Refused
     ensures { weight_of (Err result) ≡ refused 11 0 question }
 {
     Refused {
-        number: 11,
-        place: 0,
+        refusal: Fault::Extent.at(Asker::Question, 0),
         question,
     }
 }

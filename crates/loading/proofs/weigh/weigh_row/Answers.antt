@@ -3,7 +3,7 @@ use mathlib.Core.Path.{◌≡◌, refl, sym, ap, ◌∙◌}
 use Prim.Native.Nat.{ℕ, ◌-◌}
 use native.Mathlib.Omega.{arith}
 use lib.ListN.{length}
-use Rattle.std.proofs.lemmas.Result.{err_from_is_err_and}
+use Rattle.reading.proofs.Exits.{handed_on}
 use Rattle.loading.specs.Questions.{refused}
 use Rattle.loading.proofs.RowsWeighed.{weighing_none, weighed_over, weighed_all, weighed_short, weighed_refused, weighed_more}
 use borrow.Author.Rules.{rules}
@@ -30,8 +30,7 @@ returns-in_err-one c =
     let l = c.loop-i in
     let n = c.from-size in
     let one = c.in_err-one in
-    let told = err_from_is_err_and c.from_residual.result c.from_residual.ensures.1 in
-    rw (told.1, told.2)
+    rw (handed_on c.from_residual.result c.from_residual.ensures.1)
     (weighed_refused a.book.now a.at.now a.shapes.now a.lengths.now a.questions.now l.invariant.1
     n.result (omega arith) n.ensures (omega arith)
     _ c.part_of.ensures _ one.ensures _ _ _ refl)
