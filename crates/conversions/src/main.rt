@@ -2,12 +2,10 @@
 // tools/convert_cases.py makes the table and says what each row gives.
 #![tactic(auto)]
 
-ghost use Rattle.std.specs.Prelude.{◌<◌, ◌≤◌, length, IfOk};
-
 use converter::convert_book;
 use reading::{number, part_of};
 use std::io;
-use tables::{at_most, behind, read_full, sum_of_bytes};
+use tables::{Fields, at_most, checksum_of, for_each_row, read_full};
 
 // How long the room is, lent or not.
 const BYTES: usize = 32800;
@@ -15,45 +13,28 @@ const BYTES: usize = 32800;
 fn main(rt: HostRuntime) -> io::Result<()> {
     let mut input = [0u8; 262144];
     let n = read_full(&mut rt.stdin(), &mut input)?;
-    show_all(&rt, &input[..n])
+    for_each_row(&input[..n], |row| show_row(&rt, row))
 }
 
-fn show_all(rt: &impl Print, input: &[u8]) -> io::Result<()>
-    requires { length input.now ≤ 262144 }
-{
-    let mut p: usize = 0;
-    while p < input.len() {
-        p = show_row(rt, input, p)?;
-    }
-    Ok(())
-}
-
-// One row: the room lent and its label, and the book. The answer is the place behind it.
-fn show_row(rt: &impl Print, input: &[u8], p: usize) -> io::Result<usize>
-    requires { (p < length input.now) × (length input.now ≤ 262144) }
-    ensures { IfOk result (λ end. p < end) }
-{
-    let b = behind(input, p);
-    let end = behind(input, b);
-    rt.write_all(part_of(input, p + 4, b))?;
-    show_conversion(rt, part_of(input, b + 2, end), number(input, p + 2))?;
-    Ok(end)
+// One row: the room lent and the label behind it, and the book.
+fn show_row(rt: &impl Print, row: &mut Fields<'_>) -> io::Result<()> {
+    let lent = number(row.left, 2);
+    let label = row.field();
+    rt.write_all(part_of(label, 2, label.len()))?;
+    show_conversion(rt, row.field(), lent)
 }
 
 fn show_conversion(rt: &impl Print, book: &[u8], lent: usize) -> io::Result<()> {
     let mut room = [170u8; BYTES];
     let length = at_most(lent, BYTES);
-    let r = convert_book(book, &mut room[0..length]);
-    println!(rt;
-        ": {} {} {}; bytes {}",
-        r.number,
-        r.place,
-        r.bytes,
-        sum_of(&room)
-    )
+    let (refusal, place, written) = match convert_book(book, &mut room[..length]) {
+        Ok(written) => (0, 0, written),
+        Err(refusal) => (refusal.number(), refusal.place(), 0),
+    };
+    println!(rt; ": {refusal} {place} {written}; bytes {}", sum_of(&room))
 }
 
 // The checksum of the whole room, lent or not.
-fn sum_of(room: &[u8; BYTES]) -> u64 {
-    sum_of_bytes(room) as u64
+fn sum_of(room: &[u8; BYTES]) -> u32 {
+    checksum_of(&room[..])
 }

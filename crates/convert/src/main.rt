@@ -24,7 +24,10 @@ fn convert(rt: &impl Print, input: &[u8]) -> io::Result<()> {
         return println!(rt; "J");
     }
     let mut room = [0u8; Limits::BOOK];
-    let r = convert_book(part_of(input, 2, end), &mut room);
-    println!(rt; "R {} {} {}", r.number, r.place, r.bytes)?;
-    show_hex(rt, part_of(&room, 0, r.bytes))
+    let (refusal, place, written) = match convert_book(part_of(input, 2, end), &mut room) {
+        Ok(written) => (0, 0, written),
+        Err(refusal) => (refusal.number(), refusal.place(), 0),
+    };
+    println!(rt; "R {refusal} {place} {written}")?;
+    show_hex(rt, part_of(&room, 0, written))
 }

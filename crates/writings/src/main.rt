@@ -2,11 +2,9 @@
 // after it. tools/writing_cases.py makes the table and says what each row gives.
 #![tactic(auto)]
 
-ghost use Rattle.std.specs.Prelude.{◌+◌, ◌<◌, ◌≤◌, length, IfOk};
-
 use reading::{number, part_of};
 use std::io;
-use tables::{at_most, behind, read_full, sum_of_bytes};
+use tables::{Fields, at_most, checksum_of, for_each_row, read_full};
 use writer::write_book;
 
 // How long each memory is.
@@ -17,126 +15,78 @@ const BYTES: usize = 32800;
 fn main(rt: HostRuntime) -> io::Result<()> {
     let mut input = [0u8; 65536];
     let n = read_full(&mut rt.stdin(), &mut input)?;
-    show_all(&rt, &input[..n])
+    for_each_row(&input[..n], |row| show_row(&rt, row))
 }
 
-fn show_all(rt: &impl Print, input: &[u8]) -> io::Result<()>
-    requires { length input.now ≤ 65536 }
-{
-    let mut p: usize = 0;
-    while p < input.len() {
-        p = show_row(rt, input, p)?;
+// One row: the room lent and the label behind it, and the numbers of its symbols and its trees.
+fn show_row(rt: &impl Print, row: &mut Fields<'_>) -> io::Result<()> {
+    let lent = number(row.left, 2);
+    let label = row.field();
+    rt.write_all(part_of(label, 2, label.len()))?;
+    let symbols = row.field();
+    let trees = row.field();
+    show_writing(rt, lent, symbols, trees)
+}
+
+// Numbers one behind the other, no more than there is room for. There is no heap: an array of fixed size holds them.
+#[derive(Drop)]
+struct Numbers {
+    all: [u16; NUMBERS],
+    count: usize,
+}
+
+impl Numbers {
+    // Puts one number behind those that are there, if there is room.
+    fn push(&mut self, n: u16) {
+        if self.count < NUMBERS {
+            self.all[self.count] = n;
+            self.count += 1;
+        }
     }
-    Ok(())
-}
 
-// One row: the room lent and its label, and the numbers of its symbols and its trees. The answer is the place behind it.
-fn show_row(rt: &impl Print, input: &[u8], p: usize) -> io::Result<usize>
-    requires { (p < length input.now) × (length input.now ≤ 65536) }
-    ensures { IfOk result (λ end. p < end) }
-{
-    let a = behind(input, p);
-    let b = behind(input, a);
-    let end = behind(input, b);
-    rt.write_all(part_of(input, p + 4, a))?;
-    show_writing(
-        rt,
-        number(input, p + 2),
-        part_of(input, a + 2, b),
-        part_of(input, b + 2, end),
-    )?;
-    Ok(end)
-}
-
-// Puts one number behind those that are there, as far as there is room.
-fn put(numbers: &mut [u16; NUMBERS], at: usize, n: usize) -> usize
-    requires { at ≤ 40000 }
-    ensures { result ≤ 40000 }
-{
-    if NUMBERS <= at {
-        return at;
+    // The numbers that were put.
+    fn as_slice(&self) -> &[u16] {
+        &self.all[..self.count.min(NUMBERS)]
     }
-    numbers[at] = (n % 65536) as u16;
-    at + 1
 }
 
-// Puts the numbers of a block once, which stand in these bytes.
-fn put_once(bytes: &[u8], numbers: &mut [u16; NUMBERS], at: usize) -> usize
-    requires { at ≤ 40000 }
-    ensures { result ≤ 40000 }
-{
-    let mut q = at;
-    let mut i: usize = 0;
-    while i < bytes.len() / 2 {
-        q = put(numbers, q, number(bytes, 2 * i));
-        i += 1;
+// The numbers of all blocks in these bytes, each block as often as it says.
+fn numbers_of(bytes: &[u8]) -> Numbers {
+    let mut numbers = Numbers {
+        all: [0; NUMBERS],
+        count: 0,
+    };
+    let mut blocks = Fields { left: bytes };
+    while !blocks.left.is_empty() {
+        let times = blocks.number();
+        let count = blocks.number();
+        let block = blocks.bytes(count.saturating_mul(2));
+        for _ in 0..times {
+            for n in block.chunks_exact(2) {
+                numbers.push(number(n, 0) as u16);
+            }
+        }
     }
-    q
+    numbers
 }
 
-// Puts a block as often as it says.
-fn put_block(bytes: &[u8], times: usize, numbers: &mut [u16; NUMBERS], at: usize) -> usize
-    requires { at ≤ 40000 }
-    ensures { result ≤ 40000 }
-{
-    let mut q = at;
-    let mut i: usize = 0;
-    while i < times {
-        q = put_once(bytes, numbers, q);
-        i += 1;
-    }
-    q
-}
-
-// Puts the numbers of all blocks in these bytes: how many there are.
-fn numbers_of(bytes: &[u8], numbers: &mut [u16; NUMBERS]) -> usize
-    ensures { result ≤ 40000 }
-{
-    let mut q: usize = 0;
-    let mut p: usize = 0;
-    while p < bytes.len() {
-        let end = p + 4 + 2 * number(bytes, p + 2);
-        q = put_block(part_of(bytes, p + 4, end), number(bytes, p), numbers, q);
-        p = end;
-    }
-    q
-}
-
-// The first so many numbers: of the whole array, whose length needs no proof here.
-fn first(numbers: &[u16; NUMBERS], n: usize) -> &[u16]
-    requires { n ≤ 40000 }
-{
-    let all = &numbers[..];
-    &all[0..n]
-}
-
-fn show_writing<'a>(
-    rt: &impl Print,
-    room: usize,
-    symbols: &'a [u8],
-    trees: &'a [u8],
-) -> io::Result<()> {
-    let mut of_symbols = [0u16; NUMBERS];
-    let mut of_trees = [0u16; NUMBERS];
-    let n = numbers_of(symbols, &mut of_symbols);
-    let m = numbers_of(trees, &mut of_trees);
+fn show_writing(rt: &impl Print, room: usize, symbols: &[u8], trees: &[u8]) -> io::Result<()> {
+    let symbols = numbers_of(symbols);
+    let trees = numbers_of(trees);
     let lent = at_most(room, BYTES);
     let mut bytes = [170u8; BYTES];
-    let w = write_book(
-        first(&of_symbols, n),
-        first(&of_trees, m),
-        &mut bytes[0..lent],
-    );
-    println!(rt;
-        ": {} {} {}; bytes {}",
-        w.number,
-        w.row,
-        w.bytes,
-        sum_of(&bytes)
-    )
+    let (refusal, row, written) = match write_book(
+        symbols.as_slice(),
+        trees.as_slice(),
+        &mut bytes[..lent],
+    ) {
+        Ok(written) => (0, 0, written),
+        Err(refusal) => (refusal.number(), refusal.row(), 0),
+    };
+    println!(rt; ": {refusal} {row} {written}; bytes {}", sum_of(&bytes))
 }
 
 // The checksum of the whole room, lent or not.
-fn sum_of(bytes: &[u8; BYTES]) -> u64 {
-    sum_of_bytes(bytes) as u64
+fn sum_of(bytes: &[u8; BYTES]) -> u32 {
+    checksum_of(&bytes[..])
 }
