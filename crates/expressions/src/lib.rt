@@ -211,6 +211,7 @@ impl<'a> Item<'a> {
 }
 
 // A whole expression, in an item that ends at e: what is left of the nodes that it may have.
+// It is public and its clause names each parameter, so it takes no `Item` but makes one.
 pub fn read_whole<'a>(
     book: &'a [u8],
     question: &'a [u8],
