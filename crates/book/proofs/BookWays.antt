@@ -21,7 +21,7 @@ use Rattle.book.specs.TreeAt.{tree_part}
 use Rattle.book.specs.Admission.{read_book}
 use Rattle.book.specs.Index.{roots_from, ends_from, symbols_bytes, trees_place, at_after, info_after, ends_after}
 use Rattle.book.specs.Reader.{Indexed}
-use Rattle.book.specs.Tabled.{Chained, FewArguments, Tabled}
+use Rattle.book.specs.Reader.{Chained, FewArguments, Tabled}
 use Rattle.book.proofs.PartWays.{indexed_read}
 
 -- symbols that were read take the bytes that they take

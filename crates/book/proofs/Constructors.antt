@@ -15,7 +15,7 @@ use Rattle.symbols.specs.Table.{symbol_in, symbols_in, first_from}
 use Rattle.symbol_part.proofs.Chains.{stops, first_in_array, next_in_array}
 use Rattle.symbols.proofs.Tables.{symbol-there, as_many}
 use Rattle.book.specs.TreeAt.{binds_past}
-use Rattle.book.specs.Tabled.{Chained}
+use Rattle.book.specs.Reader.{Chained}
 
 module _ (bs places : List ℕ) where
   -- the symbols from f on

@@ -3,7 +3,6 @@ pub mod TreeAt
 pub mod Rules
 pub mod Admission
 pub mod Index
-pub mod Tabled
 pub mod Reader
 pub mod TreesRead
 pub mod RowsRead

@@ -1,14 +1,20 @@
 -- What the reader of trees keeps beside the bytes: the path's variables, and the ends that it marks.
-use Rattle.std.specs.Prelude.{false, List, ◌≡◌, ℕ, ◌<◌, get_or, take, Result, Ok, Err}
-use Rattle.limits.specs.Sizes.{most_variables}
+use Rattle.std.specs.Prelude.{false, List, ◌≡◌, ℕ, ◌≤◌, ◌<◌, length, get_or, take, Result, Ok, Err}
+use Rattle.limits.specs.Sizes.{most_symbols, most_variables, most_arguments, sorts_of_a_byte}
 use Rattle.reading.specs.Reading.{Reading, got, refusal}
 use Rattle.reading.specs.Answer.{refusal_number}
 use Rattle.reading.specs.declared.Refusal.{Refusal}
-use Rattle.symbols.specs.Symbols.{Symbols}
+use Rattle.symbols.specs.Symbols.{Symbols, symbol_of}
+use Rattle.symbols.specs.Table.{symbols_in, in_array, nexts_from, firsts_from}
 use Rattle.book.specs.TreeAt.{is_in}
 use Rattle.book.specs.Trees.{Tree, Trees}
 use Rattle.book.specs.Index.{mark_tree, mark_trees, roots_from, ends_from}
 use Rattle.book.specs.declared.path.Path.{Path}
+
+-- the constructors of each sort, chained
+pub record Chained (symbols : Symbols) (next first : List ℕ) : Type 0 where
+  pub nexts : next ≡ in_array (nexts_from symbols 0)
+  pub firsts : first ≡ firsts_from symbols sorts_of_a_byte 0
 
 -- the sorts of the variables bound on a path
 abbrev pub vars_of : Path → List ℕ
@@ -17,6 +23,15 @@ vars_of path = take path.bound path.sorts
 -- the flags say which variables were branched on
 unfoldable pub Branched : Path → List ℕ → Type 0
 Branched path done = (x : ℕ) → x < most_variables → is_in x done ≡ get_or path.done x false
+
+-- every symbol takes as many arguments as document 01 allows
+abbrev pub FewArguments : Symbols → Type 0
+FewArguments symbols = (f : ℕ) → f < length symbols → length (symbol_of symbols f).arguments ≤ most_arguments
+
+-- the symbols that the table of places means, no more than a book can have, with the constructors of each sort chained
+pub record Tabled (bs at next first : List ℕ) : Type 0 where
+  pub few : length at ≤ most_symbols
+  pub chained : Chained (symbols_in bs at) next first
 
 -- where a tree was read at p, its ends are marked over what was there
 unfoldable pub Marked : ℕ → Reading Tree → List ℕ → List ℕ → Type 0

@@ -2,7 +2,7 @@
 ghost use Rattle.std.specs.Prelude.{◌≡◌, ◌<◌, ◌≤◌, get_or, length};
 ghost use Rattle.limits.specs.Sizes.{most_book_bytes, most_symbols};
 ghost use Rattle.symbols.specs.Table.{symbol_in, symbols_in, arguments_of_a_byte};
-ghost use Rattle.book.specs.Tabled.{Tabled, FewArguments};
+ghost use Rattle.book.specs.Reader.{Tabled, FewArguments};
 
 use symbol_part::Chain;
 use symbols::table;

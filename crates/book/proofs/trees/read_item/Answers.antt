@@ -15,7 +15,7 @@ use Rattle.symbols.specs.Table.{symbol_in, symbols_in}
 use Rattle.symbols.proofs.Tables.{symbol-there, as_many}
 use Rattle.book.specs.TreeAt.{tree_in}
 use Rattle.book.specs.Reader.{vars_of, Branched, Marked}
-use Rattle.book.specs.Tabled.{FewArguments}
+use Rattle.book.specs.Reader.{FewArguments}
 use Rattle.book.proofs.Paths.{Flags, flags_none}
 use Rattle.book.proofs.PartWays.{item_unopened, item_refused, item-left-over, item-read}
 use Rattle.book.proofs.TreeWays.{Told}
