@@ -3,3 +3,4 @@ pub mod RoundWays
 pub mod MarkHops
 pub mod MarkWays
 pub mod SavingWays
+pub mod OneAnswer

@@ -1,3 +1,4 @@
 pub mod PutWays
 pub mod RuleWays
 pub mod WriteWays
+pub mod OneAnswer

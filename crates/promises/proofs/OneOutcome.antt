@@ -33,12 +33,14 @@ use Rattle.machine.specs.Run.{Memory as LentMemory, Result, Outcome}
 use Rattle.converter.specs.declared.Conversion.{Conversion}
 use Rattle.converter.specs.Convert.{Outcome as Conversions}
 use Rattle.converter.specs.InCode.{after as converted_as}
-use Rattle.listings.specs.declared.write.Written.{Written as ListingWritten}
+use Rattle.terms.specs.declared.faults.Refusal.{Refusal as ListingRefusal}
 use Rattle.circles.specs.declared.circle.Saved.{Saved}
 use Rattle.tagged.specs.Write.{Outcome as ListingBook}
 use Rattle.tagged.specs.Saved.{Outcome as SavedAs}
 use Rattle.listings.specs.Putting.{outcome_of as listed_as}
 use Rattle.circles.specs.Saving.{outcome_of as saved_by}
+use Rattle.listings.proofs.OneAnswer.{one-answer as one-book}
+use Rattle.circles.proofs.OneAnswer.{one-answer as one-row-told}
 use Rattle.tallies.specs.declared.Refusal.{Refusal as FigureRefusal}
 use Rattle.tallies.specs.InCode.{Less, reading_of as tallied_as}
 use Rattle.tallies.proofs.Told.{same_told as same_tallied}
@@ -158,18 +160,12 @@ one-converted r r' room room' one other =
     (ap (λ (o : Conversions). record { number = o.number; place = o.place; bytes = o.bytes }) same, ap (λ (o : Conversions). o.room) same)
 
 -- what the writer of a listing's book hands back, and the room lent after it
-pub one-listed : {t : ListingBook} (r r' : ListingWritten) (room room' : List ℕ) → listed_as r room ≡ t → listed_as r' room' ≡ t → (r ≡ r') × (room ≡ room')
-one-listed r r' room room' one other =
-    let same = one_value one other in
-    let back : ListingBook → ListingWritten = λ o. record { number = o.result.number; line = o.result.line; bytes = o.result.bytes } in
-    (ap back same, ap (λ (o : ListingBook). o.room) same)
+pub one-listed : {t : ListingBook} (r r' : Either ℕ ListingRefusal) (room room' : List ℕ) → listed_as r room ≡ t → listed_as r' room' ≡ t → (r ≡ r') × (room ≡ room')
+one-listed r r' room room' one other = one-book r r' room room' (one_value one other)
 
 -- what is handed back when a listing is saved, and the row lent after it
-pub one-saved : {t : SavedAs} (r r' : Saved) (row row' : List ℕ) → saved_by r row ≡ t → saved_by r' row' ≡ t → (r ≡ r') × (row ≡ row')
-one-saved r r' row row' one other =
-    let same = one_value one other in
-    let back : SavedAs → Saved = λ o. record { number = o.result.number; line = o.result.line; headings = o.result.headings; circle = o.result.circle } in
-    (ap back same, ap (λ (o : SavedAs). o.row) same)
+pub one-saved : {t : SavedAs} (r r' : Either Saved ListingRefusal) (row row' : List ℕ) → saved_by r row ≡ t → saved_by r' row' ≡ t → (r ≡ r') × (row ≡ row')
+one-saved r r' row row' one other = one-row-told r r' row row' (one_value one other)
 
 -- what is answered of an answer's symbols, and the totals after it
 pub one_added : {t : Reading ℕ} {left : List ℕ} (r r' : Either ℕ FigureRefusal) (row' row'' : List ℕ)

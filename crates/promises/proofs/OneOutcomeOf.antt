@@ -30,6 +30,7 @@ use Rattle.book.specs.contracts.rows_read as rows-read
 use Rattle.writer.specs.contracts.write_book as write-book
 use Rattle.converter.specs.contracts.convert_book as convert-book
 use Rattle.terms.specs.contracts.terms_of as terms-of
+use Rattle.terms.proofs.Refusals.{one-terms}
 use Rattle.listings.specs.contracts.write_listing as write-listing
 use Rattle.circles.specs.contracts.save_listing as save-listing
 use Rattle.nodes.specs.contracts.Row.apply as row-apply
@@ -145,7 +146,7 @@ convert-book-one = by_claim convert-book.ended (λ κs a z z' e e'. one-converte
 
 -- crate `terms`
 pub terms_of_one : OneResult terms-of.ended (λ M 𝓤 𝓛. terms-of.clauses 𝓛)
-terms_of_one = by_claim terms-of.ended (λ κs a z z' e e'. one_bounded)
+terms_of_one = by_claim terms-of.ended (λ κs a z z' e e' one other. one-terms z z' (one_bounded one other))
 
 -- crate `listings`
 pub write-listing-one : OneOutcome write-listing.ended (λ κs z z' e e'. (z ≡ z') × (e.1.0.now ≡ e'.1.0.now)) (λ M 𝓤 𝓛. write-listing.clauses 𝓛)

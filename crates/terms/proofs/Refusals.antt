@@ -1,13 +1,16 @@
 -- Refusals by their numbers: none has the number 0, and number and line tell which it is.
 use mathlib.Core.Bool.{true, false}
-use mathlib.Core.Path.{◌≡◌, refl, sym, ap, ap₂, ◌∙◌}
+use mathlib.Core.Path.{◌≡◌, refl, sym, ap, ◌∙◌}
 use Prim.Native.Nat.{ℕ}
 use native.Mathlib.Omega.{arith}
 use lib.Dec.{eqb}
+use Rattle.std.specs.Prelude.{Result, Ok, Err}
 use Rattle.terms.specs.Refusals.{number_of}
 use Rattle.terms.specs.declared.faults.Fault.{Fault}
 use Rattle.terms.specs.declared.faults.Fault.TheVariants.{BadLine, HeadingTwice, NoMirror, Size, ShortRow}
 use Rattle.terms.specs.declared.faults.Refusal.{Refusal}
+use Rattle.terms.specs.declared.terms.Terms.{Terms as Rows}
+use Rattle.terms.specs.TermRows.{Terms, told_of}
 
 pub number-some : (f : Fault) → number_of f ≡ 0 → ⊥
 number-some BadLine is = absurd (omega arith)
@@ -26,17 +29,32 @@ fault_of n = elim (eqb n 40) [
   ]
 ]
 
-fault-back : (f : Fault) → fault_of (number_of f) ≡ f
-unfolding fault_of
-fault-back BadLine = refl
-fault-back HeadingTwice = refl
-fault-back NoMirror = refl
-fault-back Size = refl
-fault-back ShortRow = refl
+-- what was told, back from its number: a refusal, or what is told behind 0
+pub told-back : {A : Type 0} → ℕ → ℕ → A → Result A Refusal
+told-back number line a = elim (eqb number 0) [ true ↦ Ok a | false ↦ Err (record { fault = fault_of number; line = line }) ]
 
-pub one-fault : (f g : Fault) → number_of f ≡ number_of g → f ≡ g
-one-fault f g same = sym (fault-back f) ∙ ap fault_of same ∙ fault-back g
+pub back-good : {A : Type 0} (a : A) → told-back 0 0 a ≡ Ok a
+unfolding told-back
+back-good a = refl
 
-pub one-refusal : (r q : Refusal) → number_of r.fault ≡ number_of q.fault → r.line ≡ q.line → r ≡ q
-one-refusal r q number line =
-    ap₂ (λ (f : Fault) (l : ℕ). record { fault = f; line = l }) (one-fault r.fault q.fault number) line
+pub back-refused : {A : Type 0} (r : Refusal) (a : A) → told-back (number_of r.fault) r.line a ≡ Err r
+unfolding told-back fault_of
+back-refused r a = by r.fault r.line
+  where
+    by : (f : Fault) (line : ℕ) → told-back (number_of f) line a ≡ Err (record { fault = f; line = line })
+    by BadLine line = refl
+    by HeadingTwice line = refl
+    by NoMirror line = refl
+    by Size line = refl
+    by ShortRow line = refl
+
+-- ONE ANSWER to what is told of the terms
+terms-back : (r : Result Rows Refusal)
+    → told-back (told_of r).number (told_of r).line (record { headings = (told_of r).headings; size = (told_of r).size; from = (told_of r).from; to = (told_of r).to }) ≡ r
+terms-back (Ok t) = back-good t
+terms-back (Err e) = back-refused e _
+
+pub one-terms : (r q : Result Rows Refusal) → told_of r ≡ told_of q → r ≡ q
+one-terms r q same =
+    let back : Terms → Result Rows Refusal = λ t. told-back t.number t.line (record { headings = t.headings; size = t.size; from = t.from; to = t.to }) in
+    sym (terms-back r) ∙ ap back same ∙ terms-back q
