@@ -69,7 +69,7 @@ pub record SymbolsKept (bs : List ℕ) (count p : ℕ) (places ranks nexts first
 
 pub symbols-kept : (bs : List ℕ) {count p : ℕ} (places ranks nexts firsts : List ℕ) → got count p ≡ keeping length (symbol_part bs) → places ≡ places_after (symbol_part bs)
     → ranks ≡ ranks_after (symbol_part bs) → nexts ≡ nexts_after (symbol_part bs) → firsts ≡ firsts_after (symbol_part bs) → SymbolsKept bs count p places ranks nexts firsts
-unfolding places_after ranks_after nexts_after firsts_after in_array
+unfolding places_after ranks_after nexts_after firsts_after in_array FewArguments
 symbols-kept bs {count} {p} places ranks nexts firsts told at-is ranks-are nexts-are firsts-are =
     let s = kept-got length (symbol_part bs) told in
     by s.0 s.1 s.2

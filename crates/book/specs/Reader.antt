@@ -1,5 +1,6 @@
 -- What the reader of trees keeps beside the bytes: the path's variables, and the ends that it marks.
 use Rattle.std.specs.Prelude.{false, List, ◌≡◌, ℕ, ◌≤◌, ◌<◌, length, get_or, take, Result, Ok, Err}
+use Rattle.std.specs.Coded.{Π_prop, →_prop, le_prop}
 use Rattle.limits.specs.Sizes.{most_symbols, most_variables, most_arguments, sorts_of_a_byte}
 use Rattle.reading.specs.Reading.{Reading, got, refusal}
 use Rattle.reading.specs.Answer.{refusal_number}
@@ -25,8 +26,12 @@ unfoldable pub Branched : Path → List ℕ → Type 0
 Branched path done = (x : ℕ) → x < most_variables → is_in x done ≡ get_or path.done x false
 
 -- every symbol takes as many arguments as document 01 allows
-abbrev pub FewArguments : Symbols → Type 0
+unfoldable pub FewArguments : Symbols → Type 0
 FewArguments symbols = (f : ℕ) → f < length symbols → length (symbol_of symbols f).arguments ≤ most_arguments
+
+pub FewArguments-prop : (symbols : Symbols) → IsProp (FewArguments symbols)
+unfolding FewArguments
+FewArguments-prop symbols = Π_prop λ f. →_prop le_prop
 
 -- the symbols that the table of places means, no more than a book can have, with the constructors of each sort chained
 pub record Tabled (bs at next first : List ℕ) : Type 0 where

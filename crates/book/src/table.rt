@@ -2,7 +2,7 @@
 ghost use Rattle.std.specs.Prelude.{◌≡◌, ◌<◌, ◌≤◌, get_or, length};
 ghost use Rattle.limits.specs.Sizes.{most_book_bytes, most_symbols};
 ghost use Rattle.symbols.specs.Table.{symbol_in, symbols_in, arguments_of_a_byte};
-ghost use Rattle.book.specs.Reader.{Tabled, FewArguments};
+ghost use Rattle.book.specs.Reader.{Tabled, FewArguments, FewArguments-prop};
 
 use symbol_part::Chain;
 use symbols::table;
@@ -15,7 +15,7 @@ pub struct Table<'a> {
     pub chain: &'a Chain,
     ghost small: { length book.now ≤ most_book_bytes },
     ghost tabled: { Tabled book.now at.now chain.now.next chain.now.first },
-    ghost few_arguments: { FewArguments (symbols_in book.now at.now) },
+    ghost few_arguments: { FewArguments (symbols_in book.now at.now) } by { FewArguments-prop (symbols_in book.now at.now) },
 }
 
 impl<'a> Table<'a> {

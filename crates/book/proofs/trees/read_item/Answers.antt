@@ -24,6 +24,7 @@ use Rattle.book.proofs.trees.read_item.Goals.{After-read_tree}
 
 -- the symbol at a place of the table has few arguments
 few-there : (bs places : List ℕ) (f : ℕ) → f < length places → FewArguments (symbols_in bs places) → length (symbol_in bs (get_or places f 0)).arguments ≤ most_arguments
+unfolding FewArguments
 few-there bs places f h few = rw (symbol-there bs places f h) at (few f (omega (arith, as_many bs places)))
 
 -- what is told of the tree, by the operation's own sort and arguments
