@@ -7,6 +7,7 @@ use native.Mathlib.Omega.{arith}
 use borrow.Author.Tests.{eq-eqb, ne_eqb, lt-ltb, le-ltb}
 use lib.Dec.{eqb}
 use lib.ListN.{length, get_or, drop, take, length-drop}
+use Rattle.std.specs.Prelude.{Some, None}
 use Rattle.tagged.specs.Lines.{Name, Line, heading, broader, narrower, other, newline, is_name, same, bt, nt, line_of, lines_from, lines_of}
 use Rattle.tagged.specs.Listing.{headings_of}
 use Rattle.terms.specs.Places.{run_of, end_of}
@@ -189,6 +190,9 @@ name-past s = bytes-none s (length s) (end_of s (length s)) (omega (arith, end-p
 
 -- ---- the forms of all lines: what is so at place `at`, behind so many good lines and headings
 
+some-one : {n m : ℕ} → Some n ≡ Some m → m ≡ n
+some-one e = cc
+
 pub record FormsSoFar (s : List ℕ) (lines headings at : ℕ) : Type 0 where
   pub good : good_lines 0 (lines_of s) ≡ lines + good_lines headings (lines_at s at)
   pub all : length (lines_of s) ≡ lines + length (lines_at s at)
@@ -199,7 +203,7 @@ unfolding lines_of
 forms_start s = record { good = omega arith; all = omega arith; heads = omega arith }
 
 module _ (s : List ℕ) (lines headings at : ℕ) (so : FormsSoFar s lines headings at) where
-  pub forms_end : length s ≤ at → FormsAs (record { lines = lines; bad = false; headings = headings }) (lines_of s)
+  pub forms_end : length s ≤ at → FormsAs (record { lines = lines; headings = Some headings }) (lines_of s)
   unfolding good_lines headings_of
   forms_end over =
       let none = lines_past s at over in
@@ -207,26 +211,26 @@ module _ (s : List ℕ) (lines headings at : ℕ) (so : FormsSoFar s lines headi
       record {
         good = sym good;
         bad = sym (le-ltb (good_lines 0 (lines_of s)) (length (lines_of s)) (omega (arith, so.all, ap length none)));
-        headings = λ _. omega (arith, so.heads, ap (λ l. length (headings_of l)) none);
+        headings = λ n is. some-one is ∙ omega (arith, so.heads, ap (λ l. length (headings_of l)) none);
       }
 
-  told-bad : good_lines headings (lines_at s at) ≡ 0 → 0 < length (lines_at s at) → FormsAs (record { lines = lines; bad = true; headings = headings }) (lines_of s)
+  told-bad : good_lines headings (lines_at s at) ≡ 0 → 0 < length (lines_at s at) → FormsAs (record { lines = lines; headings = None }) (lines_of s)
   told-bad none some =
       let good : good_lines 0 (lines_of s) ≡ lines = omega (arith, so.good) in
       record {
         good = sym good;
         bad = sym (lt-ltb (good_lines 0 (lines_of s)) (length (lines_of s)) (omega (arith, so.all)));
-        headings = λ e. absurd (let z : ◌≡◌ {A = ℕ} 0 1 = cc in omega arith);
+        headings = λ n e. absurd (let z : ◌≡◌ {A = ℕ} 0 1 = cc in omega arith);
       }
 
-  pub forms_cut : at < length s → length s ≤ end_of s at → FormsAs (record { lines = lines; bad = true; headings = headings }) (lines_of s)
+  pub forms_cut : at < length s → length s ≤ end_of s at → FormsAs (record { lines = lines; headings = None }) (lines_of s)
   unfolding good_lines
   forms_cut some over =
       let one = line-cut-at s at some over in
       told-bad (ap (good_lines headings) one) (omega (arith, ap length one))
 
   module _ (inside : end_of s at < length s) where
-    pub forms_bad : worth headings (line_at s at) ≡ 0 → FormsAs (record { lines = lines; bad = true; headings = headings }) (lines_of s)
+    pub forms_bad : worth headings (line_at s at) ≡ 0 → FormsAs (record { lines = lines; headings = None }) (lines_of s)
     forms_bad is =
         let one = line-at s at inside in
         told-bad (ap (good_lines headings) one ∙ good_none headings (lines_at s (end_of s at + 1)) (line_at s at) is) (omega (arith, ap length one))

@@ -10,6 +10,8 @@ use lib.Seq.{get_or-drop, drop-drop, get_or-set_same, get_or-set_other}
 use Rattle.tagged.specs.Lines.{Name, Line, heading, broader, narrower, other, same, lines_of}
 use Rattle.terms.specs.Places.{end_of}
 use Rattle.terms.specs.Judging.{kind_of, name_at, line_at}
+use Rattle.std.specs.Prelude.{Some, None}
+use Rattle.terms.specs.declared.judge.Filled.TheVariants.{Twice, Full, Over}
 use Rattle.terms.specs.Blocks.{gives, gives_same, nth, Once, TwiceFirst, table_size, name_of, Table, Entered, Block, Begins, Known, KnownBy, KnownFirst, FilledAs}
 use Rattle.terms.proofs.LineWays.{line-at, line-cut-at, lines_past}
 use Rattle.terms.proofs.JudgeWays.{heading-bytes}
@@ -215,22 +217,15 @@ module _ (s : List ℕ) (low p n : ℕ) (b : Begins s p n) (place before last : 
 -- ---- what is told of a filling
 
 module _ (s : List ℕ) (at line until p n : ℕ) (place before last : List ℕ) where
-  pub told_over : Once s (line - 1) until → FilledAs (record { twice = 0; full = false; at = p; line = n }) s at line until place before last
-  told_over once =
-      record { twice = λ not-0. absurd (not-0 refl); over = λ _ _. once; full = λ e. absurd (no_false refl e) }
+  pub told_over : Once s (line - 1) until → FilledAs Over s at line until place before last
+  told_over once = once
 
-  pub told-twice : TwiceFirst s (line - 1) until n → FilledAs (record { twice = n; full = false; at = p; line = n }) s at line until place before last
-  told-twice first =
-      record { twice = λ _. first; over = λ e _. absurd (omega (arith, first.some)); full = λ e. absurd (no_false refl e) }
+  pub told-twice : TwiceFirst s (line - 1) until n → FilledAs (Twice n) s at line until place before last
+  told-twice first = first
 
   pub told-full : Block s (line - 1) (n - 1) place before last table_size → Begins s p n → at < p → line ≤ n
-      → FilledAs (record { twice = 0; full = true; at = p; line = n }) s at line until place before last
-  told-full block begins later on =
-      record {
-        twice = λ not-0. absurd (not-0 refl);
-        over = λ _ e. absurd (no_false e refl);
-        full = λ _. (block, begins, later, on);
-      }
+      → FilledAs (Full p n) s at line until place before last
+  told-full block begins later on = (block, begins, later, on)
 
 -- ---- looking up
 
@@ -242,34 +237,30 @@ abbrev pub Unknown : List ℕ → List ℕ → ℕ → ℕ → Type 0
 Unknown s place line n = (j : ℕ) → line - 1 ≤ j → j < n - 1 → Known s place j → ⊥
 
 module _ (s place : List ℕ) (line until p n : ℕ) (b : Begins s p n) (on : line ≤ n) (so : Unknown s place line n) where
-  not-past : ((j : ℕ) → n - 1 ≤ j → nth s j ≡ other) → KnownFirst s place line until 0
+  not-past : ((j : ℕ) → n - 1 ≤ j → nth s j ≡ other) → KnownFirst s place line until None
   not-past past =
-      record { none = λ _ j low high known. by j low known (dec_lt j (n - 1)); some = λ not-0. absurd (not-0 refl) }
+      λ j low high known. by j low known (dec_lt j (n - 1))
     where
       by : (j : ℕ) → line - 1 ≤ j → Known s place j → Dec (j < n - 1) → ⊥
       by j low known (yes under) = so j low under known
       by j low known (no over) = known-other s place j (past j (omega arith)) known
 
-  pub known_past : length s ≤ p → KnownFirst s place line until 0
+  pub known_past : length s ≤ p → KnownFirst s place line until None
   known_past over = not-past (nth_past s p n b over)
 
-  pub known-cut : p < length s → length s ≤ end_of s p → KnownFirst s place line until 0
+  pub known-cut : p < length s → length s ≤ end_of s p → KnownFirst s place line until None
   known-cut some over = not-past (nth_cut s p n b some over)
 
-  pub known_until : until < n → KnownFirst s place line until 0
+  pub known_until : until < n → KnownFirst s place line until None
   known_until past =
-      record { none = λ _ j low high known. so j low (omega arith) known; some = λ not-0. absurd (not-0 refl) }
+      λ j low high known. so j low (omega arith) known
 
   module _ (inside : end_of s p < length s) where
     line-here : nth s (n - 1) ≡ line_at s p
     line-here = nth_here s p n b inside
 
-    pub known-here : n ≤ until → (r : Bool) → KnownBy r s place p → r ≡ true → KnownFirst s place line until n
-    known-here within true told e =
-        record {
-          none = λ e. absurd (omega (arith, b.some));
-          some = λ _. (within, on, (told.0, told.1, rw line-here told.2), so);
-        }
+    pub known-here : n ≤ until → (r : Bool) → KnownBy r s place p → r ≡ true → KnownFirst s place line until (Some n)
+    known-here within true told e = (within, on, (told.0, told.1, rw line-here told.2), so)
     known-here within false told e = absurd (no_false refl e)
 
     pub known_on : (r : Bool) → KnownBy r s place p → r ≡ false → Unknown s place line (n + 1)

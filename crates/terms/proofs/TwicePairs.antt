@@ -4,15 +4,17 @@ use mathlib.Core.Path.{◌≡◌, refl, sym, ap, ◌∙◌}
 use mathlib.Core.List.{List, [], ◌∷◌, ◌++◌, append_assoc, append-nil}
 use Prim.Native.Nat.{ℕ, zero, suc, ◌+◌, ◌-◌, ◌≤◌, ◌<◌}
 use native.Mathlib.Omega.{arith}
-use native.Mathlib.Decide.{dec_lt, ℕ_discrete}
+use native.Mathlib.Decide.{dec_lt}
 use borrow.Author.Tests.{lt-ltb, ltb-true}
 use lib.Dec.{ltb, leb-suc-suc}
 use lib.ListN.{length, get_or, take, drop, length-append, length-take, take-append-drop, get_or-append, get_or-eq_default}
 use lib.Seq.{get_or-append_seam, get_or-take, drop-cons, length-take-le, take-take}
+use Rattle.std.specs.Prelude.{Option, Some, None}
+use Rattle.std.specs.Option.{option_or}
 use Rattle.tagged.specs.Lines.{Name, Line, heading, broader, narrower, other, same, lines_of}
 use Rattle.tagged.specs.Listing.{number_of, headings_of, is_heading}
-use Rattle.terms.specs.Judging.{twice_from}
-use Rattle.terms.specs.Blocks.{gives, gives_same, nth, Once, TwiceFirst, Begins, BestSoFar, Block, Known, KnownFirst, table_size}
+use Rattle.terms.specs.Judging.{line_told, twice_from}
+use Rattle.terms.specs.Blocks.{gives, gives_same, nth, Once, TwiceFirst, Begins, BestSoFar, Block, Known, KnownFirst, until_told, table_size}
 use Rattle.terms.proofs.JudgeParts.{twice_found, twice-new}
 use Rattle.terms.proofs.TwiceBlocks.{both_head, nth_past}
 
@@ -114,6 +116,19 @@ passed done n (l ∷ mid) rest once = one l once (passed (done ++ (l ∷ [])) (s
     one (narrower x) once ih = rw (own (narrower x) ∙ append-nil (headings_of done)) at (go (narrower x) once ih)
     one other once ih = rw (own other ∙ append-nil (headings_of done)) at (go other once ih)
 
+-- a line is told as it is
+pub line-some : (t : ℕ) → 0 < t → Some t ≡ line_told t
+line-some zero some = absurd (omega arith)
+line-some (suc t) some = refl
+
+pub line-zero : (t : ℕ) → None ≡ line_told t → t ≡ 0
+line-zero zero is = refl
+line-zero (suc t) is = absurd (let z : ◌≡◌ {A = ℕ} 0 1 = cc in omega arith)
+
+pub line-is : (t l : ℕ) → Some l ≡ line_told t → (l ≡ t) × (t ≡ 0 → ⊥)
+line-is zero l is = absurd (let z : ◌≡◌ {A = ℕ} 0 1 = cc in omega arith)
+line-is (suc t) l is = (let e : l ≡ suc t = cc in e, λ z. absurd (omega arith))
+
 -- ---- the first of all
 
 once_in : (s : List ℕ) (m : ℕ) → Once s 0 m → OnceIn (take m (lines_of s))
@@ -166,103 +181,94 @@ module _ (s : List ℕ) (lines : ℕ) where
               let z : other ≡ heading x = sym (get_or-eq_default (lines_of s) other (omega arith)) ∙ is in
               absurd (let o : ◌≡◌ {A = ℕ} 0 1 = cc in omega arith)
 
+  -- the same, by the line that is told
+  abbrev pub ToldLine : Option ℕ → Type 0
+  ToldLine t = t ≡ line_told (twice_from [] 1 (take lines (lines_of s)))
+
+  never_told : Once s 0 lines → ToldLine None
+  never_told once = ap line_told (never once)
+
+  first_told : (t : ℕ) → TwiceFirst s 0 lines t → ToldLine (Some t)
+  first_told t f = line-some t f.some ∙ ap line_told (first t f)
+
   -- ---- block by block
 
-  -- the lines still of interest
-  abbrev pub UntilIs : ℕ → ℕ → Type 0
-  UntilIs best until = (best ≡ 0 → until ≡ lines) × ((best ≡ 0 → ⊥) → until ≡ best - 1)
+  pub best-start : BestSoFar s lines None 0
+  best-start = λ i j less. absurd (omega arith)
 
-  pub best-start : BestSoFar s lines 0 0
-  best-start = record { none = λ _ i j less. absurd (omega arith); some = λ not-0. absurd (not-0 refl) }
-
-  module _ (best low until : ℕ) (so : BestSoFar s lines best low) (is : UntilIs best until) where
+  module _ (low until : ℕ) where
     -- none below `low` comes sooner
-    older : (i j : ℕ) → i < low → i < j → j < until → gives_same (nth s i) (nth s j) ≡ true → ⊥
-    older i j under less high = by (ℕ_discrete best 0)
-      where
-        by : Dec (best ≡ 0) → gives_same (nth s i) (nth s j) ≡ true → ⊥
-        by (yes z) = so.none z i j under less (omega (arith, is.0 z))
-        by (no some) = (so.some some).2 i j under less (omega (arith, is.1 some))
+    older : (best : Option ℕ) → BestSoFar s lines best low → until ≡ until_told best lines
+        → (i j : ℕ) → i < low → i < j → j < until → gives_same (nth s i) (nth s j) ≡ true → ⊥
+    older None so is i j under less high = so i j under less (omega (arith, is))
+    older (Some b) so is i j under less high = so.3 i j under less (omega (arith, is))
 
-    not-later : until ≤ lines
-    not-later = by (ℕ_discrete best 0)
-      where
-        by : Dec (best ≡ 0) → until ≤ lines
-        by (yes z) = omega (arith, is.0 z)
-        by (no some) = omega (arith, is.1 some, (so.some some).0)
+    not-later : (best : Option ℕ) → BestSoFar s lines best low → until ≡ until_told best lines → until ≤ lines
+    not-later None so is = omega (arith, is)
+    not-later (Some b) so is = omega (arith, is, so.1)
 
-    joined : (m : ℕ) → m ≤ until → Once s low m → Once s 0 m
-    joined m few once i j _ less high g = by (dec_lt i low)
-      where
-        by : Dec (i < low) → ⊥
-        by (yes under) = older i j under less (omega arith) g
-        by (no over) = once i j (omega arith) less high g
-
-    pub best-end : Once s low until → Told best
-    best-end once = by (ℕ_discrete best 0)
-      where
-        by : Dec (best ≡ 0) → Told best
-        by (yes z) =
-            let e : until ≡ lines = is.0 z in
-            z ∙ never (rw e at (joined until (omega arith) once))
-        by (no some) =
-            let e : until ≡ best - 1 = is.1 some in
-            let f = so.some some in
-            first best (record { some = omega (arith, some); within = f.0; old = f.1.0; before = f.1.1; again = f.1.2; once = rw e at (joined until (omega arith) once) })
-
-    pub best-twice : (t : ℕ) → TwiceFirst s low until t → Told t
-    best-twice t f =
-        first t
-        (record {
-          some = f.some;
-          within = omega (arith, f.within, not-later);
-          old = f.old;
-          before = f.before;
-          again = f.again;
-          once = joined (t - 1) (omega (arith, f.within)) f.once;
-        })
-
-    module _ (line : ℕ) (place before last : List ℕ) (block : Block s low (line - 1) place before last table_size) (on : low ≤ line - 1) (t new : ℕ)
-        (known : KnownFirst s place line until t) (stays : t ≡ 0 → new ≡ best) (sooner : (t ≡ 0 → ⊥) → new ≡ t) where
-      -- a heading of the block is known where it is given again
-      again : (i j : ℕ) → low ≤ i → i < line - 1 → gives_same (nth s i) (nth s j) ≡ true → Known s place j
-      again i j above less g =
-          let both = both_head (nth s i) (nth s j) g in
-          let k = block.all i above less both.0 both.1 in
-          (k.0, k.1, rw k.2 both.2)
-
-      none_below : (m : ℕ) → m ≤ until → ((j : ℕ) → line - 1 ≤ j → j < m → Known s place j → ⊥) → (i j : ℕ) → i < line - 1 → i < j → j < m → gives_same (nth s i) (nth s j) ≡ true → ⊥
-      none_below m few unknown i j under less high g = by (dec_lt i low) (dec_lt j (line - 1))
+    module _ (best : Option ℕ) (so : BestSoFar s lines best low) (is : until ≡ until_told best lines) where
+      joined : (m : ℕ) → m ≤ until → Once s low m → Once s 0 m
+      joined m few once i j _ less high g = by (dec_lt i low)
         where
-          by : Dec (i < low) → Dec (j < line - 1) → ⊥
-          by (yes old) _ = older i j old less (omega arith) g
-          by (no not) (yes early) = block.once i j (omega arith) less early g
-          by (no not) (no late) = unknown j (omega arith) high (again i j (omega arith) under g)
+          by : Dec (i < low) → ⊥
+          by (yes under) = older best so is i j under less (omega arith) g
+          by (no over) = once i j (omega arith) less high g
 
-      pub best-on : BestSoFar s lines new (line - 1)
-      best-on = by (ℕ_discrete t 0)
-        where
-          found : (t ≡ 0 → ⊥) → (old : ℕ) × (old < t - 1) × (gives_same (nth s old) (nth s (t - 1)) ≡ true)
-          found some =
-              let k = (known.some some).2 in
-              let f = block.from k.0 k.1 in
-              (f.0, omega (arith, f.1, (known.some some).1), rw f.2 k.2)
+      pub best-twice : (t : ℕ) → TwiceFirst s low until t → ToldLine (Some t)
+      best-twice t f =
+          first_told t
+          (record {
+            some = f.some;
+            within = omega (arith, f.within, not-later best so is);
+            old = f.old;
+            before = f.before;
+            again = f.again;
+            once = joined (t - 1) (omega (arith, f.within)) f.once;
+          })
 
-          by : Dec (t ≡ 0) → BestSoFar s lines new (line - 1)
-          by (yes z) =
-              let below = none_below until (omega arith) (known.none z) in
-              rw (stays z)
-              record {
-                none = λ b i j under less high. below i j under less (omega (arith, is.0 b));
-                some = λ b. ((so.some b).0, (so.some b).1, λ i j under less high. below i j under less (omega (arith, is.1 b)));
-              }
-          by (no some) =
-              let k = known.some some in
-              rw (sooner some)
-              record {
-                none = λ b. absurd (some b);
-                some = λ _. (omega (arith, k.0, not-later), found some, none_below (t - 1) (omega (arith, k.0)) k.3);
-              }
+      module _ (line : ℕ) (place before last : List ℕ) (block : Block s low (line - 1) place before last table_size) (on : low ≤ line - 1) where
+        -- a heading of the block is known where it is given again
+        again : (i j : ℕ) → low ≤ i → i < line - 1 → gives_same (nth s i) (nth s j) ≡ true → Known s place j
+        again i j above less g =
+            let both = both_head (nth s i) (nth s j) g in
+            let k = block.all i above less both.0 both.1 in
+            (k.0, k.1, rw k.2 both.2)
+
+        none_below : (m : ℕ) → m ≤ until → ((j : ℕ) → line - 1 ≤ j → j < m → Known s place j → ⊥) → (i j : ℕ) → i < line - 1 → i < j → j < m → gives_same (nth s i) (nth s j) ≡ true → ⊥
+        none_below m few unknown i j under less high g = by (dec_lt i low) (dec_lt j (line - 1))
+          where
+            by : Dec (i < low) → Dec (j < line - 1) → ⊥
+            by (yes old) _ = older best so is i j old less (omega arith) g
+            by (no not) (yes early) = block.once i j (omega arith) less early g
+            by (no not) (no late) = unknown j (omega arith) high (again i j (omega arith) under g)
+
+        pub known_found : (t : ℕ) → 0 < line → KnownFirst s place line until (Some t) → BestSoFar s lines (Some t) (line - 1)
+        known_found t some known =
+            let k = known.2 in
+            let f = block.from k.0 k.1 in
+            let old : (old : ℕ) × (old < t - 1) × (gives_same (nth s old) (nth s (t - 1)) ≡ true) = (f.0, omega (arith, f.1, known.1), rw f.2 k.2) in
+            (omega (arith, some, known.1), omega (arith, known.0, not-later best so is), old, none_below (t - 1) (omega (arith, known.0)) known.3)
+
+        pub known_none : KnownFirst s place line until None → (i j : ℕ) → i < line - 1 → i < j → j < until → gives_same (nth s i) (nth s j) ≡ true → ⊥
+        known_none known = none_below until (omega arith) known
+
+    pub best-end : (best : Option ℕ) → BestSoFar s lines best low → until ≡ until_told best lines → Once s low until → ToldLine best
+    best-end None so is once =
+        let e : until ≡ lines = is in
+        never_told (rw e at (joined None so is until (omega arith) once))
+    best-end (Some b) so is once =
+        let e : until ≡ b - 1 = is in
+        first_told b
+        (record { some = so.0; within = so.1; old = so.2.0; before = so.2.1; again = so.2.2; once = rw e at (joined (Some b) so is until (omega arith) once) })
+
+    module _ (line : ℕ) (place before last : List ℕ) (block : Block s low (line - 1) place before last table_size) (on : low ≤ line - 1) (some : 0 < line) where
+      pub best-on : (best known : Option ℕ) → BestSoFar s lines best low → until ≡ until_told best lines
+          → KnownFirst s place line until known → BestSoFar s lines (option_or known best) (line - 1)
+      best-on best (Some t) so is known = known_found best so is line place before last block on t some known
+      best-on None None so is known = λ i j under less high. known_none None so is line place before last block on known i j under less (omega (arith, is))
+      best-on (Some b) None so is known =
+          (so.0, so.1, so.2, λ i j under less high. known_none (Some b) so is line place before last block on known i j under less (omega (arith, is)))
 
 pub once-end : (s : List ℕ) (p n : ℕ) → Begins s p n → length s ≤ p → (until : ℕ) → Once s (n - 1) until
 once-end s p n b over until i j above less high g =
@@ -275,9 +281,6 @@ unfolding lines_of
 begins-first s = record { stands = refl; some = omega arith; few = omega arith }
 
 -- behind the last block
-pub last-told : (s : List ℕ) (lines best p n : ℕ) → Begins s p n → BestSoFar s lines best (n - 1) → length s ≤ p → best ≡ twice_from [] 1 (take lines (lines_of s))
-last-told s lines best p n b so over = by (ℕ_discrete best 0)
-  where
-    by : Dec (best ≡ 0) → best ≡ twice_from [] 1 (take lines (lines_of s))
-    by (yes z) = best-end s lines best (n - 1) lines so (λ _. refl, λ some. absurd (some z)) (once-end s p n b over lines)
-    by (no some) = best-end s lines best (n - 1) (best - 1) so (λ z. absurd (some z), λ _. refl) (once-end s p n b over (best - 1))
+pub last-told : (s : List ℕ) (lines : ℕ) (best : Option ℕ) (p n : ℕ) → Begins s p n → BestSoFar s lines best (n - 1) → length s ≤ p
+    → best ≡ line_told (twice_from [] 1 (take lines (lines_of s)))
+last-told s lines best p n b so over = best-end s lines (n - 1) (until_told best lines) best so refl (once-end s p n b over (until_told best lines))

@@ -1,8 +1,9 @@
 -- Headings given twice, block by block: a table of headings, found by chains of equal hash. For contracts of inner functions.
-use Rattle.std.specs.Prelude.{Bool, true, false, ◌≡◌, List, [], ◌∷◌, ℕ, ◌+◌, ◌*◌, ◌-◌, ◌%◌, ◌≤◌, ◌<◌, get_or, length, drop, set}
+use Rattle.std.specs.Prelude.{Option, Some, None, Bool, true, false, ◌≡◌, List, [], ◌∷◌, ℕ, ◌+◌, ◌*◌, ◌-◌, ◌%◌, ◌≤◌, ◌<◌, get_or, length, drop, set}
 use Rattle.tagged.specs.Lines.{Name, Line, heading, broader, narrower, other, same, lines_from, lines_of}
 use Rattle.terms.specs.Judging.{kind_of, name_at, line_at}
 use Rattle.terms.specs.declared.judge.Filled.{Filled}
+use Rattle.terms.specs.declared.judge.Filled.TheVariants.{Twice, Full, Over}
 
 -- ---- pairs of lines
 
@@ -121,10 +122,11 @@ pub record Begins (s : List ℕ) (at line : ℕ) : Type 0 where
   pub few : line ≤ at + 1
 
 -- what filling the table with the lines from line `line` on tells, counted from 1
-pub record FilledAs (f : Filled) (s : List ℕ) (at line until : ℕ) (place before last : List ℕ) : Type 0 where
-  pub twice : (f.twice ≡ 0 → ⊥) → TwiceFirst s (line - 1) until f.twice
-  pub over : f.twice ≡ 0 → f.full ≡ false → Once s (line - 1) until
-  pub full : f.full ≡ true → Block s (line - 1) (f.line - 1) place before last table_size × Begins s f.at f.line × (at < f.at) × (line ≤ f.line)
+abbrev pub FilledAs : Filled → List ℕ → ℕ → ℕ → ℕ → List ℕ → List ℕ → List ℕ → Type 0
+FilledAs (Twice t) s at line until place before last = TwiceFirst s (line - 1) until t
+FilledAs Over s at line until place before last = Once s (line - 1) until
+FilledAs (Full p n) s at line until place before last =
+    Block s (line - 1) (n - 1) place before last table_size × Begins s p n × (at < p) × (line ≤ n)
 
 -- one of the table's headings is given in line n again, counted from 0
 abbrev pub Known : List ℕ → List ℕ → ℕ → Type 0
@@ -135,13 +137,20 @@ abbrev pub KnownBy : Bool → List ℕ → List ℕ → ℕ → Type 0
 KnownBy true s place at = (k : ℕ) × (k < table_size) × (gives (name_of s place k) (line_at s at) ≡ true)
 KnownBy false s place at = (k : ℕ) → k < table_size → gives (name_of s place k) (line_at s at) ≡ true → ⊥
 
--- what looking the lines from line `line` on up in a full table tells, counted from 1: the first that is known, or 0
-pub record KnownFirst (s place : List ℕ) (line until t : ℕ) : Type 0 where
-  pub none : t ≡ 0 → (j : ℕ) → line - 1 ≤ j → j < until → Known s place j → ⊥
-  pub some : (t ≡ 0 → ⊥) → (t ≤ until) × (line ≤ t) × Known s place (t - 1) × ((j : ℕ) → line - 1 ≤ j → j < t - 1 → Known s place j → ⊥)
+-- what looking the lines from line `line` on up in a full table tells, counted from 1: the first that is known
+abbrev pub KnownFirst : List ℕ → List ℕ → ℕ → ℕ → Option ℕ → Type 0
+KnownFirst s place line until None = (j : ℕ) → line - 1 ≤ j → j < until → Known s place j → ⊥
+KnownFirst s place line until (Some t) =
+    (t ≤ until) × (line ≤ t) × Known s place (t - 1) × ((j : ℕ) → line - 1 ≤ j → j < t - 1 → Known s place j → ⊥)
 
--- the first line so far that gives a heading again, counted from 1, among those whose earlier line stands below `low`; 0 if there is none
-pub record BestSoFar (s : List ℕ) (lines best low : ℕ) : Type 0 where
-  pub none : best ≡ 0 → (i j : ℕ) → i < low → i < j → j < lines → gives_same (nth s i) (nth s j) ≡ true → ⊥
-  pub some : (best ≡ 0 → ⊥) → (best ≤ lines) × ((old : ℕ) × (old < best - 1) × (gives_same (nth s old) (nth s (best - 1)) ≡ true))
-      × ((i j : ℕ) → i < low → i < j → j < best - 1 → gives_same (nth s i) (nth s j) ≡ true → ⊥)
+-- the first line so far that gives a heading again, counted from 1, among those whose earlier line stands below `low`
+abbrev pub BestSoFar : List ℕ → ℕ → Option ℕ → ℕ → Type 0
+BestSoFar s lines None low = (i j : ℕ) → i < low → i < j → j < lines → gives_same (nth s i) (nth s j) ≡ true → ⊥
+BestSoFar s lines (Some best) low =
+    (0 < best) × (best ≤ lines) × ((old : ℕ) × (old < best - 1) × (gives_same (nth s old) (nth s (best - 1)) ≡ true))
+    × ((i j : ℕ) → i < low → i < j → j < best - 1 → gives_same (nth s i) (nth s j) ≡ true → ⊥)
+
+-- the lines that are still of interest
+abbrev pub until_told : Option ℕ → ℕ → ℕ
+until_told None lines = lines
+until_told (Some best) lines = best - 1

@@ -1,5 +1,5 @@
 -- The judge's work in three parts, each a walk over the lines: forms, headings given twice, mirrors. For contracts of inner functions.
-use Rattle.std.specs.Prelude.{Bool, true, false, not, ◌&&◌, ◌||◌, ◌≡◌, List, [], ◌∷◌, ◌++◌, ℕ, suc, ltb, eqb, length}
+use Rattle.std.specs.Prelude.{Option, Some, None, is_none, Bool, true, false, not, ◌&&◌, ◌||◌, ◌≡◌, List, [], ◌∷◌, ◌++◌, ℕ, zero, suc, ltb, eqb, length}
 use Rattle.tagged.specs.Lines.{Name, Line, heading, broader, narrower, other, same, line_of}
 use Rattle.tagged.specs.Listing.{headings_of, is_heading}
 use Rattle.terms.specs.Places.{end_of, bytes_of}
@@ -27,11 +27,16 @@ good_lines k (broader name ∷ rest) = elim (eqb k 0) [ true ↦ 0 | false ↦ s
 good_lines k (narrower name ∷ rest) = elim (eqb k 0) [ true ↦ 0 | false ↦ suc (good_lines k rest) ]
 good_lines k (other ∷ rest) = 0
 
--- what is told of the forms of all lines: how many are good, whether one behind them is not, and how many headings there are if none is
+-- what is told of the forms of all lines: how many are good, and how many headings there are if none behind them is not
 pub record FormsAs (f : Forms) (lines : List Line) : Type 0 where
   pub good : f.lines ≡ good_lines 0 lines
-  pub bad : f.bad ≡ ltb (good_lines 0 lines) (length lines)
-  pub headings : f.bad ≡ false → f.headings ≡ length (headings_of lines)
+  pub bad : is_none f.headings ≡ ltb (good_lines 0 lines) (length lines)
+  pub headings : (n : ℕ) → f.headings ≡ Some n → n ≡ length (headings_of lines)
+
+-- a line, where 0 is none
+abbrev pub line_told : ℕ → Option ℕ
+line_told zero = None
+line_told (suc n) = Some (suc n)
 
 -- "41 heading given twice": the first line, counted from n, behind these headings; 0 if there is none
 unfoldable pub twice_from : List Name → ℕ → List Line → ℕ

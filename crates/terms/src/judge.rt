@@ -5,20 +5,19 @@ ghost use Rattle.tagged.specs.Listing.{broader_in};
 ghost use Rattle.terms.specs.TermRows.{JudgedAs};
 ghost use Rattle.terms.specs.Places.{bytes_of};
 ghost use Rattle.terms.specs.Blocks.{hash_of, table_size, name_of, Inside, Chained, Sized, Rows, Cleared, Table, Sought, Entered};
-ghost use Rattle.terms.specs.Blocks.{Begins, FilledAs, KnownBy, KnownFirst};
-ghost use Rattle.terms.specs.Judging.{kind_of, worth, FormsAs, twice_from, name_at, line_at};
+ghost use Rattle.terms.specs.Blocks.{Begins, FilledAs, KnownBy, KnownFirst, until_told};
+ghost use Rattle.terms.specs.Judging.{kind_of, worth, FormsAs, line_told, twice_from, name_at, line_at};
 ghost use Rattle.terms.specs.Judging.{mirror_lines, next_heading, mirror_in, wants, unmirrored_from};
 ghost use Rattle.terms.specs.Meeting.{Under, Met};
 
 use super::faults::{Fault, Refusal};
 use super::lines::{Form, form_of, line_end, same};
 
-// How many lines are good, whether one behind them is not, and how many headings there are.
+// How many lines are good, and how many headings there are, if none behind them is not.
 #[derive(Clone, Copy)]
-pub struct Forms {
-    pub lines: usize,
-    pub bad: bool,
-    pub headings: usize,
+struct Forms {
+    lines: usize,
+    headings: Option<usize>,
 }
 
 // What the line at `at` is: 1 a heading's own, 2 a BT, 3 an NT, 0 none of these.
@@ -67,16 +66,14 @@ fn forms_of(s: &[u8]) -> Forms
         if s.len() <= to {
             return Forms {
                 lines,
-                bad: true,
-                headings,
+                headings: None,
             };
         }
         let w = worth_at(s, at, headings);
         if w == 0 {
             return Forms {
                 lines,
-                bad: true,
-                headings,
+                headings: None,
             };
         }
         headings += w - 1;
@@ -85,21 +82,22 @@ fn forms_of(s: &[u8]) -> Forms
     }
     Forms {
         lines,
-        bad: false,
-        headings,
+        headings: Some(headings),
     }
 }
 
 // How many entries a table of names has, and how many hashes there are.
 pub const TABLE: usize = 8192;
 
-// How far a table was filled: the line that gives one of its headings again, or 0; whether it is full, and then the next line and its place.
+// How far a table was filled.
 #[derive(Clone, Copy)]
-pub struct Filled {
-    pub twice: usize,
-    pub full: bool,
-    pub at: usize,
-    pub line: usize,
+enum Filled {
+    // This line gives one of its headings again.
+    Twice(usize),
+    // It is full, and the next line, of this number, stands at this place.
+    Full { at: usize, line: usize },
+    // No line is left.
+    Over,
 }
 
 fn wide(b: u8) -> usize
@@ -207,48 +205,23 @@ fn fill(
     while p < s.len() {
         let to = line_end(s, p);
         if s.len() <= to {
-            return Filled {
-                twice: 0,
-                full: false,
-                at: p,
-                line: n,
-            };
+            return Filled::Over;
         }
         if until < n {
-            return Filled {
-                twice: 0,
-                full: false,
-                at: p,
-                line: n,
-            };
+            return Filled::Over;
         }
         if count == TABLE {
-            return Filled {
-                twice: 0,
-                full: true,
-                at: p,
-                line: n,
-            };
+            return Filled::Full { at: p, line: n };
         }
         let e = enter(s, p, count, place, before, last);
         if e == 2 {
-            return Filled {
-                twice: n,
-                full: false,
-                at: p,
-                line: n,
-            };
+            return Filled::Twice(n);
         }
         count += e;
         n += 1;
         p = to + 1;
     }
-    Filled {
-        twice: 0,
-        full: false,
-        at: p,
-        line: n,
-    }
+    Filled::Over
 }
 
 // The line at `at` gives one of a full table's headings.
@@ -273,7 +246,7 @@ fn known_at(
     in_table(s, place, before, from, at, to)
 }
 
-// The first line from line `line` at `at` on, up to line `until`, that gives one of a full table's headings; 0 if there is none.
+// The first line from line `line` at `at` on, up to line `until`, that gives one of a full table's headings.
 fn first_known(
     s: &[u8],
     at: usize,
@@ -282,7 +255,7 @@ fn first_known(
     place: &[usize; TABLE],
     before: &[usize; TABLE],
     last: &[usize; TABLE],
-) -> usize
+) -> Option<usize>
     requires begins { Begins s.now at line }
     requires table { Table s.now place.now before.now last.now table_size }
     ensures { KnownFirst s.now place.now line until result }
@@ -293,66 +266,53 @@ fn first_known(
     while p < s.len() {
         let to = line_end(s, p);
         if s.len() <= to {
-            return 0;
+            return None;
         }
         if until < n {
-            return 0;
+            return None;
         }
         if known_at(s, p, place, before, last) {
-            return n;
+            return Some(n);
         }
         n += 1;
         p = to + 1;
     }
-    0
+    None
 }
 
-// The lines that are still of interest.
-fn until_of(best: usize, lines: usize) -> usize
-    ensures { (best ≡ 0 → result ≡ lines) × ((best ≡ 0 → ⊥) → result ≡ best - 1) }
+// The lines that are still of interest: those above the first one found so far.
+fn until_of(best: Option<usize>, lines: usize) -> usize
+    ensures { result ≡ until_told best lines }
 {
-    if best == 0 {
-        return lines;
+    match best {
+        Some(line) => line.saturating_sub(1),
+        None => lines,
     }
-    best - 1
 }
 
-// The first of two lines, where 0 is none, and the new one lies before the old.
-fn sooner(new: usize, old: usize) -> usize
-    ensures { (new ≡ 0 → result ≡ old) × ((new ≡ 0 → ⊥) → result ≡ new) }
-{
-    if new == 0 {
-        return old;
-    }
-    new
-}
-
-// "41 heading given twice": the first such line among so many; 0 if there is none. The headings are taken by blocks that fill a table, and the lines behind a
+// "41 heading given twice": the first such line among so many. The headings are taken by blocks that fill a table, and the lines behind a
 // block are looked up in it, up to the first line found so far: some lines * lines / TABLE look-ups for names whose hashes lie apart.
-fn first_twice(s: &[u8], lines: usize) -> usize
-    ensures { result ≡ twice_from [] 1 (take lines (lines_of s.now)) }
+fn first_twice(s: &[u8], lines: usize) -> Option<usize>
+    ensures { result ≡ line_told (twice_from [] 1 (take lines (lines_of s.now))) }
 {
     let mut place = [0usize; TABLE];
     let mut before = [0usize; TABLE];
     let mut last = [0usize; TABLE];
-    let mut best: usize = 0;
+    let mut best = None;
     let mut at: usize = 0;
     let mut line: usize = 1;
     // a hop: the next block begins where this one was full
     while at < s.len() {
         let until = until_of(best, lines);
-        let f = fill(s, at, line, until, &mut place, &mut before, &mut last);
-        let twice = f.twice;
-        if twice != 0 {
-            return twice;
+        match fill(s, at, line, until, &mut place, &mut before, &mut last) {
+            Filled::Twice(twice) => return Some(twice),
+            Filled::Over => return best,
+            Filled::Full { at: next, line: n } => {
+                best = first_known(s, next, n, until, &place, &before, &last).or(best);
+                at = next;
+                line = n;
+            }
         }
-        if !f.full {
-            return best;
-        }
-        at = f.at;
-        line = f.line;
-        let known = first_known(s, at, line, until, &place, &before, &last);
-        best = sooner(known, best);
     }
     best
 }
@@ -698,10 +658,10 @@ fn lacks_mirror(
     true
 }
 
-// "42 a BT or NT whose mirror line is missing": the first such line; 0 if there is none. TABLE lines at a time are noted, and all lines looked up among them:
+// "42 a BT or NT whose mirror line is missing": the first such line. TABLE lines at a time are noted, and all lines looked up among them:
 // some lines * lines / TABLE look-ups for names whose hashes lie apart. A line that is met has its mirror; one that is not is sought among all.
-fn first_unmirrored(s: &[u8]) -> usize
-    ensures { result ≡ unmirrored_from (lines_of s.now) [] 1 (lines_of s.now) }
+fn first_unmirrored(s: &[u8]) -> Option<usize>
+    ensures { result ≡ line_told (unmirrored_from (lines_of s.now) [] 1 (lines_of s.now)) }
 {
     let mut place = [0usize; TABLE];
     let mut head = [0usize; TABLE];
@@ -714,18 +674,18 @@ fn first_unmirrored(s: &[u8]) -> usize
     while at < s.len() {
         let to = line_end(s, at);
         if s.len() <= to {
-            return 0;
+            return None;
         }
         let e = entry_at(s, h, at, k, &mut place, &mut head, &mut met);
         if lacks_mirror(s, h, at, e, &place, &head, &met) {
-            return line;
+            return Some(line);
         }
         h = next_heading(s, h, at);
         line += 1;
         k = e + 1;
         at = to + 1;
     }
-    0
+    None
 }
 
 // How many headings a good listing has, or the first fault of one that is not.
@@ -736,17 +696,15 @@ pub(crate) fn judged(s: &[u8]) -> Result<usize, Refusal>
         return Err(Fault::BadLine.at(1));
     }
     let f = forms_of(s);
-    let lines = f.lines;
-    let twice = first_twice(s, lines);
-    if twice != 0 {
-        return Err(Fault::HeadingTwice.at(twice));
+    match first_twice(s, f.lines) {
+        Some(line) => return Err(Fault::HeadingTwice.at(line)),
+        None => {}
     }
-    if f.bad {
-        return Err(Fault::BadLine.at(lines + 1));
+    match f.headings {
+        Some(headings) => match first_unmirrored(s) {
+            Some(line) => Err(Fault::NoMirror.at(line)),
+            None => Ok(headings),
+        },
+        None => Err(Fault::BadLine.at(f.lines + 1)),
     }
-    let line = first_unmirrored(s);
-    if line != 0 {
-        return Err(Fault::NoMirror.at(line));
-    }
-    Ok(f.headings)
 }

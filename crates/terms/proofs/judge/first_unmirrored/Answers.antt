@@ -5,25 +5,27 @@ use native.Mathlib.Omega.{arith}
 use borrow.Author.Rules.{rules}
 use lib.ListN.{length, replicate}
 use Rattle.tagged.specs.Lines.{lines_of}
-use Rattle.terms.specs.Judging.{unmirrored_from, name_at, line_at}
+use Rattle.terms.specs.Judging.{line_told, unmirrored_from, name_at, line_at}
 use Rattle.terms.proofs.LineWays.{end_after, line-at, line-cut-at, lines_past}
 use Rattle.terms.proofs.JudgeWays.{name-past}
 use Rattle.terms.proofs.MirrorWays.{unmirrored_here, unmirrored_later, unmirrored_none, unmirrored_cut, unmirrored_all}
 use Rattle.terms.proofs.MeetWays.{met_start}
+use Rattle.terms.proofs.TwicePairs.{line-some}
 use Rattle.terms.proofs.judge.first_unmirrored.Goals as goal
 
 pub loop-at-init : goal.loop-at-init
 loop-at-init c =
     let s = c.args.s.now in
     let zeros = replicate {A = ℕ} 8192 0 in
-    (omega arith, omega arith, omega arith, rw (name-past s) (unmirrored_all s), met_start s zeros zeros)
+    (omega arith, omega arith, omega arith, rw (name-past s) (unmirrored_all s), met_start s zeros zeros, omega arith)
 
 pub returns-then-s-to : goal.returns-then-s-to
 returns-then-s-to c =
     let loop = c.loop-at in
     let s = c.args.s.now in
     let to = c.line_end-to.ensures in
-    sym (loop.invariant.3 ∙ rw (line-cut-at s loop.at (omega arith) (omega arith)) (unmirrored_cut (lines_of s) (name_at s loop.h) loop.line))
+    let rest = ap (unmirrored_from (lines_of s) (name_at s loop.h) loop.line) (line-cut-at s loop.at (omega arith) (omega arith)) in
+    ap line_told (sym (loop.invariant.3 ∙ rest ∙ unmirrored_cut (lines_of s) (name_at s loop.h) loop.line))
 
 pub entry_at-e-requires : goal.entry_at-e-requires
 entry_at-e-requires c = record { places = (omega arith, omega arith); mirrored = c.loop-at.invariant.4 }
@@ -37,7 +39,9 @@ returns-then-lacks_mirror c =
     let s = c.args.s.now in
     let to = c.line_end-to.ensures in
     let is = sym c.lacks_mirror.ensures ∙ c.if-lacks_mirror.true in
-    sym (loop.invariant.3 ∙ rw (line-at s loop.at (omega arith)) (unmirrored_here (lines_of s) (name_at s loop.h) loop.line (line_at s loop.at) _ is))
+    let rest = ap (unmirrored_from (lines_of s) (name_at s loop.h) loop.line) (line-at s loop.at (omega arith)) in
+    line-some loop.line loop.invariant.5
+    ∙ ap line_told (sym (loop.invariant.3 ∙ rest ∙ unmirrored_here (lines_of s) (name_at s loop.h) loop.line (line_at s loop.at) _ is))
 
 pub next_heading-h-requires : goal.next_heading-h-requires
 next_heading-h-requires c = (omega arith, omega arith)
@@ -77,10 +81,12 @@ loop-at-preserved c =
       omega (arith, loop.invariant.2, e.low),
       rw (to, next.1) (here ∙ unmirrored_later (lines_of s) (name_at s loop.h) loop.line (line_at s loop.at) _ is),
       e.mirrored,
+      omega arith,
     )
 
 pub returns : goal.returns
 returns c =
     let loop = c.loop-at in
     let s = c.args.s.now in
-    sym (loop.invariant.3 ∙ rw (lines_past s loop.at (omega arith)) (unmirrored_none (lines_of s) (name_at s loop.h) loop.line))
+    let rest = ap (unmirrored_from (lines_of s) (name_at s loop.h) loop.line) (lines_past s loop.at (omega arith)) in
+    ap line_told (sym (loop.invariant.3 ∙ rest ∙ unmirrored_none (lines_of s) (name_at s loop.h) loop.line))

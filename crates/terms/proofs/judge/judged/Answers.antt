@@ -1,52 +1,52 @@
 -- `judged` meets its contract: the three walks together are the definition's one.
-use mathlib.Core.Path.{refl, sym, ◌∙◌}
+use mathlib.Core.Path.{refl, sym, ap, ◌∙◌}
 use Prim.Native.Nat.{◌+◌, ◌≤◌}
 use native.Mathlib.Omega.{arith}
 use lib.ListN.{length}
+use Rattle.std.specs.Prelude.{is_none}
 use Rattle.tagged.specs.Lines.{lines_of}
 use Rattle.tagged.specs.Listing.{headings_of}
 use Rattle.terms.proofs.JudgeWhole.{rows-many, lines_few, good-most, whole, judge-empty, judge-twice, judge-bad, judge_unmirrored, judge-good}
+use Rattle.terms.proofs.TwicePairs.{line-zero, line-is}
 use Rattle.terms.proofs.judge.judged.Goals as goal
 
 pub returns-then-s-eq0 : goal.returns-then-s-eq0
 returns-then-s-eq0 c =
-    let a = c.args in
-    rw c.at.ensures (rw (judge-empty a.s.now c.if-s-eq0.true) (refl, refl))
+    rw c.at.ensures (rw (judge-empty c.args.s.now c.if-s-eq0.true) (refl, refl))
 
-pub returns-then-twice-ne0 : goal.returns-then-twice-ne0
-returns-then-twice-ne0 c =
+pub returns-in-Some : goal.returns-in-Some
+returns-in-Some c =
     let s = c.args.s.now in
-    let f = c.forms_of-f.ensures in
-    let t = rw f.good at c.first_twice-twice.ensures in
-    rw c.at-then-twice-ne0.ensures (rw (judge-twice s c.if-s-eq0.false (λ e. c.if-twice-ne0.true (t ∙ e))) (refl, t))
+    let told = line-is _ _ (rw c.forms_of-f.ensures.good at c.in-Some.ensures) in
+    rw c.at-in-Some.ensures (rw (judge-twice s c.if-s-eq0.false told.1) (refl, told.0))
 
-pub overflow_add-lines : goal.overflow_add-lines
-overflow_add-lines c =
+pub overflow_add-f : goal.overflow_add-f
+overflow_add-f c =
     let s = c.args.s.now in
     let f = c.forms_of-f.ensures in
     let fits : c.forms_of-f.result.lines + 1 ≤ length s + 2 = omega (arith, f.good, good-most 0 (lines_of s), lines_few s) in
     omega arith
 
-pub returns-then-f : goal.returns-then-f
-returns-then-f c =
+pub returns-in-Some-first_unmirrored : goal.returns-in-Some-first_unmirrored
+returns-in-Some-first_unmirrored c =
     let s = c.args.s.now in
     let f = c.forms_of-f.ensures in
-    let t = rw f.good at c.first_twice-twice.ensures in
-    rw c.at-then-f.ensures (rw (judge-bad s c.if-s-eq0.false (sym t ∙ c.if-twice-ne0.false) (sym f.bad ∙ c.if-f.true)) (refl, omega (arith, f.good)))
+    let once = line-zero _ (rw f.good at c.in-None.ensures) in
+    let told = line-is _ _ c.in-Some-first_unmirrored.ensures in
+    rw c.at-in-Some-first_unmirrored.ensures (rw (judge_unmirrored s c.if-s-eq0.false once (sym f.bad ∙ ap is_none c.in-Some-headings.is) told.1) (refl, told.0))
 
-pub returns-then-line-ne0 : goal.returns-then-line-ne0
-returns-then-line-ne0 c =
+pub returns-in-None-first_unmirrored : goal.returns-in-None-first_unmirrored
+returns-in-None-first_unmirrored c =
     let s = c.args.s.now in
     let f = c.forms_of-f.ensures in
-    let t = rw f.good at c.first_twice-twice.ensures in
-    let u = c.first_unmirrored-line.ensures in
-    rw c.at-then-line-ne0.ensures (rw (judge_unmirrored s c.if-s-eq0.false (sym t ∙ c.if-twice-ne0.false) (sym f.bad ∙ c.if-f.false) (λ e. c.if-line-ne0.true (u ∙ e))) (refl, u))
+    let once = line-zero _ (rw f.good at c.in-None.ensures) in
+    let is = c.in-Some-headings.is in
+    rw (judge-good s c.if-s-eq0.false once (sym f.bad ∙ ap is_none is) (line-zero _ c.in-None-first_unmirrored.ensures))
+    (f.headings _ is ∙ sym (rows-many (whole s c.if-s-eq0.false) (length (headings_of (lines_of s))) 0))
 
-pub returns : goal.returns
-returns c =
+pub returns-in-None-headings : goal.returns-in-None-headings
+returns-in-None-headings c =
     let s = c.args.s.now in
     let f = c.forms_of-f.ensures in
-    let t = rw f.good at c.first_twice-twice.ensures in
-    let u = c.first_unmirrored-line.ensures in
-    rw (judge-good s c.if-s-eq0.false (sym t ∙ c.if-twice-ne0.false) (sym f.bad ∙ c.if-f.false) (sym u ∙ c.if-line-ne0.false))
-    (f.headings c.if-f.false ∙ sym (rows-many (whole s c.if-s-eq0.false) (length (headings_of (lines_of s))) 0))
+    let once = line-zero _ (rw f.good at c.in-None.ensures) in
+    rw c.at-in-None-headings.ensures (rw (judge-bad s c.if-s-eq0.false once (sym f.bad ∙ ap is_none c.in-None-headings.is)) (refl, omega (arith, f.good)))
