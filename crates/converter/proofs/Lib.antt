@@ -9,3 +9,4 @@ pub mod OldBytes
 pub mod Marks
 pub mod Scanned
 pub mod ConvertWays
+pub mod OneAnswer

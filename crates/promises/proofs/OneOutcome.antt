@@ -25,14 +25,16 @@ use Rattle.reading.specs.Answer.{reading_of, reading_by}
 use Rattle.reading.proofs.Told.{same_reading, same_told}
 use Rattle.symbol_part.specs.declared.SymbolPart.{SymbolPart}
 use Rattle.book.specs.declared.BookIndex.{BookIndex}
-use Rattle.writer.specs.declared.Written.{Written}
+use Rattle.writer.specs.declared.Refusal.{Refusal as WriterRefusal}
 use Rattle.writer.specs.Write.{Outcome as Writing}
 use Rattle.writer.specs.InCode.{after as written_as}
+use Rattle.writer.proofs.OneAnswer.{one-answer as one-written-book}
 use Rattle.nodes.specs.declared.Row.{Row}
 use Rattle.machine.specs.Run.{Memory as LentMemory, Result, Outcome}
-use Rattle.converter.specs.declared.Conversion.{Conversion}
+use Rattle.converter.specs.declared.Refusal.{Refusal as ConverterRefusal}
 use Rattle.converter.specs.Convert.{Outcome as Conversions}
 use Rattle.converter.specs.InCode.{after as converted_as}
+use Rattle.converter.proofs.OneAnswer.{one-answer as one-new-book}
 use Rattle.terms.specs.declared.faults.Refusal.{Refusal as ListingRefusal}
 use Rattle.circles.specs.declared.circle.Saved.{Saved}
 use Rattle.tagged.specs.Write.{Outcome as ListingBook}
@@ -147,17 +149,12 @@ module _ {at info ends : List ℕ} where
       same_told (λ i. (i.count, i.next)) IndexIs one_of_index r r' arrays arrays' (one_value reading reading')
 
 -- what the book writer hands back, and the room lent after it
-pub one_written : {t : Writing} (r r' : Written) (room room' : List ℕ) → written_as r room ≡ t → written_as r' room' ≡ t → (r ≡ r') × (room ≡ room')
-one_written r r' room room' one other =
-    let same = one_value one other in
-    let back : Writing → Written = λ o. record { number = o.result.number; row = o.result.row; bytes = o.result.bytes } in
-    (ap back same, ap (λ (o : Writing). o.room) same)
+pub one_written : {t : Writing} (r r' : Either ℕ WriterRefusal) (room room' : List ℕ) → written_as r room ≡ t → written_as r' room' ≡ t → (r ≡ r') × (room ≡ room')
+one_written r r' room room' one other = one-written-book r r' room room' (one_value one other)
 
 -- what the converter hands back, and the room lent after it
-pub one-converted : {t : Conversions} (r r' : Conversion) (room room' : List ℕ) → converted_as r room ≡ t → converted_as r' room' ≡ t → (r ≡ r') × (room ≡ room')
-one-converted r r' room room' one other =
-    let same = one_value one other in
-    (ap (λ (o : Conversions). record { number = o.number; place = o.place; bytes = o.bytes }) same, ap (λ (o : Conversions). o.room) same)
+pub one-converted : {t : Conversions} (r r' : Either ℕ ConverterRefusal) (room room' : List ℕ) → converted_as r room ≡ t → converted_as r' room' ≡ t → (r ≡ r') × (room ≡ room')
+one-converted r r' room room' one other = one-new-book r r' room room' (one_value one other)
 
 -- what the writer of a listing's book hands back, and the room lent after it
 pub one-listed : {t : ListingBook} (r r' : Either ℕ ListingRefusal) (room room' : List ℕ) → listed_as r room ≡ t → listed_as r' room' ≡ t → (r ≡ r') × (room ≡ room')

@@ -8,3 +8,4 @@ pub mod SymbolRows
 pub mod ExprRows
 pub mod TreeRows
 pub mod Exact
+pub mod OneAnswer
