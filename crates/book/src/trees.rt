@@ -77,6 +77,7 @@ fn read_tree(
         return Err(Fault::Code.at(Asker::Book, p));
     }
     let (code, from) = byte_at(table.book, Asker::Book, e, p)?;
+    // The codes of document 01 are met here alone, so they are numbers and no enum.
     let behind = match code {
         // An exempt, which edition 2 has not.
         0 if byte(table.book, 0) != 2 => from,
