@@ -1,7 +1,7 @@
 -- What is said of a node, by its kind, as the code reads it.
 use mathlib.Core.List.{List}
 use mathlib.Core.Path.{◌≡◌, refl, sym, ap, ◌∙◌}
-use Prim.Native.Nat.{ℕ, zero, suc, ◌+◌, ◌<◌, ◌≤◌}
+use Prim.Native.Nat.{ℕ, zero, suc, ◌<◌, ◌≤◌}
 use native.Mathlib.Omega.{arith}
 use borrow.Author.Tests.{lt-ltb, le-ltb}
 use lib.ListN.{length, get_or}
@@ -11,22 +11,23 @@ use Rattle.symbols.proofs.Tables.{symbol-there, as_many}
 use Rattle.nodes.specs.Numbers.{kind_in, label_in, arrow_in}
 use Rattle.sorts.specs.Sorts.{sort_of}
 use Rattle.accepted.specs.Read.{node_by, node_in}
+use Rattle.judging.specs.declared.said.Said.{Said}
+use Rattle.judging.specs.declared.said.Said.TheVariants.{Nothing, One}
 use Rattle.judging.specs.Sorts.{joined, met_by}
 
-module _ (book table m met : List ℕ) (n own : ℕ) where
+module _ (book table m : List ℕ) (met : List Said) (n : ℕ) (own : Said) where
   abbrev S : Symbols
   S = symbols_in book table
 
-  abbrev said : ℕ
+  abbrev said : Said
   said = met_by S met own (node_in S m n)
 
-  pub said_known : (kind f s r : ℕ) → kind ≡ kind_in m n → kind ≡ 0 → f ≡ label_in m n → f < length table → s ≡ (symbol_in book (get_or table f 0)).sort
-      → r ≡ joined own (s + 1) → r ≡ said
+  pub said_known : (kind f s : ℕ) (r : Said) → kind ≡ kind_in m n → kind ≡ 0 → f ≡ label_in m n → f < length table → s ≡ (symbol_in book (get_or table f 0)).sort
+      → r ≡ joined own (One s) → r ≡ said
   unfolding met_by node_by
   said_known kind f s r k is l lt sort e =
       let known : label_in m n < length S = omega (arith, l, lt, as_many book table) in
-      let same : suc (sort_of S (label_in m n)) ≡ s + 1 =
-      omega (arith, ap (λ (g : ℕ). sort_of S g) (sym l) ∙ ap (λ (x : Symbol). x.sort) (symbol-there book table f lt) ∙ sym sort) in
+      let same : sort_of S (label_in m n) ≡ s = ap (λ (g : ℕ). sort_of S g) (sym l) ∙ ap (λ (x : Symbol). x.sort) (symbol-there book table f lt) ∙ sym sort in
       e ∙ rw (sym k ∙ is, met_by, lt-ltb (label_in m n) (length S) known, same) refl
 
   pub said_unknown : (kind f : ℕ) → kind ≡ kind_in m n → kind ≡ 0 → f ≡ label_in m n → length table ≤ f → own ≡ said
@@ -35,12 +36,12 @@ module _ (book table m met : List ℕ) (n own : ℕ) where
       let unknown : length S ≤ label_in m n = omega (arith, l, past, as_many book table) in
       rw (sym k ∙ is, met_by, le-ltb (label_in m n) (length S) unknown) refl
 
-  pub said_choice : (kind a b i j r : ℕ) → kind ≡ kind_in m n → kind ≡ 1 → a ≡ get_or met (arrow_in m n 0) 0 → b ≡ get_or met (arrow_in m n 1) 0
+  pub said_choice : (kind : ℕ) (a b i r : Said) → kind ≡ kind_in m n → kind ≡ 1 → a ≡ get_or met (arrow_in m n 0) Nothing → b ≡ get_or met (arrow_in m n 1) Nothing
       → i ≡ joined own a → r ≡ joined i b → r ≡ said
   unfolding met_by node_by
-  said_choice kind a b i j r k is l q first e = e ∙ rw (first, l, q, sym k ∙ is, met_by) refl
+  said_choice kind a b i r k is l q first e = e ∙ rw (first, l, q, sym k ∙ is, met_by) refl
 
-  pub said_forward : (kind a r : ℕ) → kind ≡ kind_in m n → kind ≡ 3 → a ≡ get_or met (arrow_in m n 0) 0 → r ≡ joined own a → r ≡ said
+  pub said_forward : (kind : ℕ) (a r : Said) → kind ≡ kind_in m n → kind ≡ 3 → a ≡ get_or met (arrow_in m n 0) Nothing → r ≡ joined own a → r ≡ said
   unfolding met_by node_by
   said_forward kind a r k is l e = e ∙ rw (l, sym k ∙ is, met_by) refl
 

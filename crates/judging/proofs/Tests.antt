@@ -2,8 +2,8 @@
 use mathlib.Core.Bool.{true, false}
 use mathlib.Core.List.{List}
 use mathlib.Core.Logic.{◌⊎◌, inl, inr, ◌≢◌}
-use mathlib.Core.Path.{◌≡◌, refl, sym, ◌∙◌}
-use Prim.Native.Nat.{ℕ, suc, ◌<◌}
+use mathlib.Core.Path.{◌≡◌, refl, sym, ap, ◌∙◌}
+use Prim.Native.Nat.{ℕ}
 use native.Mathlib.Decide.{ℕ_discrete}
 use native.Mathlib.Omega.{arith}
 use lib.ListN.{get_or}
@@ -13,14 +13,16 @@ use Rattle.sorts.specs.Sorts.{sort_of}
 use Rattle.accepted.specs.Faults.{misfit}
 use Rattle.accepted.proofs.Reaches.{not-passed}
 use Rattle.accepted.proofs.Misfits.{Misfit, misfit-is, is-misfit}
-use Rattle.judging.specs.Sorts.{several, Met, Says, AllMet}
+use Rattle.judging.specs.declared.said.Said.{Said}
+use Rattle.judging.specs.declared.said.Said.TheVariants.{Nothing, One, Several}
+use Rattle.judging.specs.Sorts.{Met, Says, AllMet}
 
-module _ (S : Symbols) (h : Heap) (met : List ℕ) (all : AllMet S h met) (n s : ℕ) where
+module _ (S : Symbols) (h : Heap) (met : List Said) (all : AllMet S h met) (n s : ℕ) where
   -- where nothing is said, or this sort alone, it fits
-  pub met-fits : (get_or met n 0 ≡ 0) ⊎ (get_or met n 0 ≡ suc s) → s < 256 → misfit S h n s ≡ false
-  met-fits said small = not-passed (misfit S h n s) (λ e. by said (misfit-is S h n s e))
+  pub met-fits : (get_or met n Nothing ≡ Nothing) ⊎ (get_or met n Nothing ≡ One s) → misfit S h n s ≡ false
+  met-fits said = not-passed (misfit S h n s) (λ e. by said (misfit-is S h n s e))
     where
-      by : (get_or met n 0 ≡ 0) ⊎ (get_or met n 0 ≡ suc s) → Misfit S h n s → ⊥
+      by : (get_or met n Nothing ≡ Nothing) ⊎ (get_or met n Nothing ≡ One s) → Misfit S h n s → ⊥
       by said x =
           go (sort_of S x.symbol) x.other said
           (all.all n (sort_of S x.symbol) (record {
@@ -33,11 +35,11 @@ module _ (S : Symbols) (h : Heap) (met : List ℕ) (all : AllMet S h met) (n s :
             sorted = refl;
           }))
         where
-          go : (t : ℕ) → t ≢ s → (get_or met n 0 ≡ 0) ⊎ (get_or met n 0 ≡ suc s) → (get_or met n 0 ≡ suc t) ⊎ (get_or met n 0 ≡ several) → ⊥
-          go t o (inl q) (inl r) = omega (arith, q, r)
-          go t o (inl q) (inr r) = omega (arith, q, r)
-          go t o (inr q) (inl r) = o (omega (arith, q, r))
-          go t o (inr q) (inr r) = omega (arith, q, r, small)
+          go : (t : ℕ) → t ≢ s → (get_or met n Nothing ≡ Nothing) ⊎ (get_or met n Nothing ≡ One s) → (get_or met n Nothing ≡ One t) ⊎ (get_or met n Nothing ≡ Several) → ⊥
+          go t o (inl q) (inl r) = let z : ◌≡◌ {A = ℕ} 0 1 = cc in omega arith
+          go t o (inl q) (inr r) = let z : ◌≡◌ {A = ℕ} 0 1 = cc in omega arith
+          go t o (inr q) (inl r) = o (cc)
+          go t o (inr q) (inr r) = let z : ◌≡◌ {A = ℕ} 0 1 = cc in omega arith
 
   -- else it does not
   met-other : {t : ℕ} → t ≢ s → Met S h n t → Misfit S h n s
@@ -51,12 +53,12 @@ module _ (S : Symbols) (h : Heap) (met : List ℕ) (all : AllMet S h met) (n s :
     other = λ q. other (sym x.sorted ∙ q);
   }
 
-  pub met_misfits : (get_or met n 0 ≡ 0 → ⊥) → (get_or met n 0 ≡ suc s → ⊥) → misfit S h n s ≡ true
-  met_misfits some other = is-misfit S h n s (by (get_or met n 0) refl (all.says n))
+  pub met_misfits : (get_or met n Nothing ≡ Nothing → ⊥) → (get_or met n Nothing ≡ One s → ⊥) → misfit S h n s ≡ true
+  met_misfits some other = is-misfit S h n s (by (get_or met n Nothing) refl (all.says n))
     where
-      by : (v : ℕ) → get_or met n 0 ≡ v → Says (Met S h n) v → Misfit S h n s
+      by : (v : Said) → get_or met n Nothing ≡ v → Says (Met S h n) v → Misfit S h n s
       by v q Says.nothing = absurd (some q)
-      by v q (Says.one {s = t} l x) = met-other (λ z. other (q ∙ (let w : suc t ≡ suc s = omega arith in w))) x
+      by v q (Says.one {s = t} x) = met-other (λ z. other (q ∙ ap One z)) x
       by v q (Says.more {s = t} {t = u} o x y) = side (ℕ_discrete t s)
         where
           side : Dec (t ≡ s) → Misfit S h n s

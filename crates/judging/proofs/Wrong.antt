@@ -14,9 +14,10 @@ use Rattle.nodes.specs.Numbers.{kind_in, label_in, arrow_in}
 use Rattle.rewriting.specs.Lists.{firsts}
 use Rattle.sorts.specs.Sorts.{arguments_of}
 use Rattle.accepted.specs.Read.{node_by, node_in}
+use Rattle.judging.specs.declared.said.Said.{Said}
 use Rattle.judging.specs.Sorts.{some_unfit, wrong_by}
 
-module _ (book table m met : List ℕ) (k n : ℕ) where
+module _ (book table m : List ℕ) (met : List Said) (k n : ℕ) where
   abbrev S : Symbols
   S = symbols_in book table
 

@@ -1,5 +1,5 @@
 // What is judged: a book by its table of symbols, and the first `used` of the nodes that are lent.
-ghost use Rattle.std.specs.Prelude.{ℕ, ◌<◌, ◌≤◌, get_or};
+ghost use Rattle.std.specs.Prelude.{◌≤◌};
 ghost use Rattle.limits.specs.Sizes.{most_nodes};
 
 #[derive(Clone, Copy)]
@@ -9,5 +9,4 @@ pub struct Judged<'a> {
     pub nodes: &'a [u16],
     pub used: usize,
     ghost few: { used ≤ most_nodes },
-    ghost bytes: { (i : ℕ) → get_or book.now i 0 < 256 },
 }

@@ -8,6 +8,7 @@ use lib.ListN.{length, get_or}
 use Rattle.nodes.specs.Numbers.{arrow_in}
 use Rattle.rewriting.specs.Lists.{firsts}
 use Rattle.rewriting.proofs.Lists.{length-firsts, get_or_firsts}
+use Rattle.judging.specs.declared.said.Said.{Said}
 use Rattle.judging.specs.Sorts.{unfit, some_unfit}
 use Rattle.judging.proofs.Unfit.{unfit-none-left, unfit-step-none, unfit-step-some}
 use Rattle.judging.proofs.lent.Judged.has_unfit.Goals as goal
@@ -21,7 +22,7 @@ returns-then-is_unfit c = let a = c.args in
     let inside : l.j < length ss = omega arith in
     let x = c.arrow_at in
     let arrow = get_or_firsts (length ss) (arrow_in a.self.nodes.now a.n) l.j 0 inside ∙ sym x.ensures in
-    let bad = ap (λ (v : ℕ). unfit v (get_or ss l.j 0)) (sym c.number_of.ensures) ∙ sym c.is_unfit.ensures
+    let bad = ap (λ (v : Said). unfit v (get_or ss l.j 0)) (sym c.said_of.ensures) ∙ sym c.is_unfit.ensures
     ∙ c.if-is_unfit.true in
     subst (λ (s : List ℕ). true ≡ some_unfit met (firsts (length s) (arrow_in a.self.nodes.now a.n)) s)
     c.arguments_of-s-items.ensures.0
@@ -37,7 +38,7 @@ loop-j-preserved c = let a = c.args in
     let inside : l.j < length ss = omega arith in
     let x = c.arrow_at in
     let arrow = get_or_firsts (length ss) (arrow_in a.self.nodes.now a.n) l.j 0 inside ∙ sym x.ensures in
-    let fine = ap (λ (v : ℕ). unfit v (get_or ss l.j 0)) (sym c.number_of.ensures) ∙ sym c.is_unfit.ensures
+    let fine = ap (λ (v : Said). unfit v (get_or ss l.j 0)) (sym c.said_of.ensures) ∙ sym c.is_unfit.ensures
     ∙ c.if-is_unfit.false in
     l.invariant ∙ unfit-step-none met xs ss l.j x.result (get_or ss l.j 0)
     (omega (arith, length-firsts (length ss) (arrow_in a.self.nodes.now a.n))) inside arrow refl fine

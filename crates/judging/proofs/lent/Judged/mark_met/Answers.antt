@@ -3,7 +3,6 @@ use mathlib.Core.Path.{refl, ◌∙◌}
 use native.Mathlib.Omega.{arith}
 use Rattle.judging.specs.Judged.{symbols_of, heap_of}
 use Rattle.judging.proofs.Meeting.{all-met}
-use Rattle.judging.proofs.Unfit.{sort_byte}
 use Rattle.judging.proofs.lent.Judged.mark_met.Goals as goal
 
 pub loop-init : goal.loop-init
@@ -22,4 +21,4 @@ loop-preserved c = let p = c.met_pass.ensures in (p.long ∙ c.loop.invariant.0,
 pub returns : goal.returns
 returns c = let j = c.args.self in
     let p = c.met_pass in
-    all-met (symbols_of j) (sort_byte j.book.now j.bytes j.table.now) (heap_of j) p.new.met p.ensures.says (p.ensures.closed c.loop-test.false)
+    all-met (symbols_of j) (heap_of j) p.new.met p.ensures.says (p.ensures.closed c.loop-test.false)
