@@ -125,6 +125,10 @@ pub line-zero : (t : ℕ) → None ≡ line_told t → t ≡ 0
 line-zero zero is = refl
 line-zero (suc t) is = absurd (let z : ◌≡◌ {A = ℕ} 0 1 = cc in omega arith)
 
+pub line-never : (t : ℕ) (o : Option ℕ) → o ≡ line_told t → ((l : ℕ) → o ≡ Some l → ⊥) → t ≡ 0
+line-never zero o is never = refl
+line-never (suc t) o is never = absurd (never (suc t) is)
+
 pub line-is : (t l : ℕ) → Some l ≡ line_told t → (l ≡ t) × (t ≡ 0 → ⊥)
 line-is zero l is = absurd (let z : ◌≡◌ {A = ℕ} 0 1 = cc in omega arith)
 line-is (suc t) l is = (let e : l ≡ suc t = cc in e, λ z. absurd (omega arith))

@@ -284,10 +284,7 @@ fn first_known(
 fn until_of(best: Option<usize>, lines: usize) -> usize
     ensures { result ≡ until_told best lines }
 {
-    match best {
-        Some(line) => line.saturating_sub(1),
-        None => lines,
-    }
+    best.map_or(lines, |line| line.saturating_sub(1))
 }
 
 // "41 heading given twice": the first such line among so many. The headings are taken by blocks that fill a table, and the lines behind a
@@ -696,9 +693,8 @@ pub(crate) fn judged(s: &[u8]) -> Result<usize, Refusal>
         return Err(Fault::BadLine.at(1));
     }
     let f = forms_of(s);
-    match first_twice(s, f.lines) {
-        Some(line) => return Err(Fault::HeadingTwice.at(line)),
-        None => {}
+    if let Some(line) = first_twice(s, f.lines) {
+        return Err(Fault::HeadingTwice.at(line));
     }
     match f.headings {
         Some(headings) => match first_unmirrored(s) {

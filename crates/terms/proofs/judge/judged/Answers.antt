@@ -7,7 +7,7 @@ use Rattle.std.specs.Prelude.{is_none}
 use Rattle.tagged.specs.Lines.{lines_of}
 use Rattle.tagged.specs.Listing.{headings_of}
 use Rattle.terms.proofs.JudgeWhole.{rows-many, lines_few, good-most, whole, judge-empty, judge-twice, judge-bad, judge_unmirrored, judge-good}
-use Rattle.terms.proofs.TwicePairs.{line-zero, line-is}
+use Rattle.terms.proofs.TwicePairs.{line-zero, line-never, line-is}
 use Rattle.terms.proofs.judge.judged.Goals as goal
 
 pub returns-then-s-eq0 : goal.returns-then-s-eq0
@@ -31,7 +31,7 @@ pub returns-in-Some-first_unmirrored : goal.returns-in-Some-first_unmirrored
 returns-in-Some-first_unmirrored c =
     let s = c.args.s.now in
     let f = c.forms_of-f.ensures in
-    let once = line-zero _ (rw f.good at c.in-None.ensures) in
+    let once = line-never _ _ (rw f.good at c.first_twice.ensures) c.in_default.not-Some in
     let told = line-is _ _ c.in-Some-first_unmirrored.ensures in
     rw c.at-in-Some-first_unmirrored.ensures (rw (judge_unmirrored s c.if-s-eq0.false once (sym f.bad ∙ ap is_none c.in-Some-headings.is) told.1) (refl, told.0))
 
@@ -39,14 +39,14 @@ pub returns-in-None-first_unmirrored : goal.returns-in-None-first_unmirrored
 returns-in-None-first_unmirrored c =
     let s = c.args.s.now in
     let f = c.forms_of-f.ensures in
-    let once = line-zero _ (rw f.good at c.in-None.ensures) in
+    let once = line-never _ _ (rw f.good at c.first_twice.ensures) c.in_default.not-Some in
     let is = c.in-Some-headings.is in
     rw (judge-good s c.if-s-eq0.false once (sym f.bad ∙ ap is_none is) (line-zero _ c.in-None-first_unmirrored.ensures))
     (f.headings _ is ∙ sym (rows-many (whole s c.if-s-eq0.false) (length (headings_of (lines_of s))) 0))
 
-pub returns-in-None-headings : goal.returns-in-None-headings
-returns-in-None-headings c =
+pub returns-in-None : goal.returns-in-None
+returns-in-None c =
     let s = c.args.s.now in
     let f = c.forms_of-f.ensures in
-    let once = line-zero _ (rw f.good at c.in-None.ensures) in
-    rw c.at-in-None-headings.ensures (rw (judge-bad s c.if-s-eq0.false once (sym f.bad ∙ ap is_none c.in-None-headings.is)) (refl, omega (arith, f.good)))
+    let once = line-never _ _ (rw f.good at c.first_twice.ensures) c.in_default.not-Some in
+    rw c.at-in-None.ensures (rw (judge-bad s c.if-s-eq0.false once (sym f.bad ∙ ap is_none c.in-None.is)) (refl, omega (arith, f.good)))
