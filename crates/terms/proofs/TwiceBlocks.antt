@@ -11,6 +11,7 @@ use Rattle.tagged.specs.Lines.{Name, Line, heading, broader, narrower, other, sa
 use Rattle.terms.specs.Places.{end_of}
 use Rattle.terms.specs.Judging.{kind_of, name_at, line_at}
 use Rattle.std.specs.Prelude.{Some, None}
+use Rattle.terms.specs.declared.judge.Entry.TheVariants.{Given, New, NoHeading}
 use Rattle.terms.specs.declared.judge.Filled.TheVariants.{Twice, Full, Over}
 use Rattle.terms.specs.Blocks.{gives, gives_same, nth, Once, TwiceFirst, table_size, name_of, Table, Entered, Block, Begins, Known, KnownBy, KnownFirst, FilledAs}
 use Rattle.terms.proofs.LineWays.{line-at, line-cut-at, lines_past}
@@ -121,9 +122,9 @@ module _ (s : List ℕ) (low p n : ℕ) (b : Begins s p n) (place before last : 
     here = nth_here s p n b inside
 
     -- a heading of the block again
-    pub block_twice : Entered 2 s p count place before last place' before' last' → (until : ℕ) → n ≤ until → TwiceFirst s low until n
+    pub block_twice : Entered Given s p count place before last place' before' last' → (until : ℕ) → n ≤ until → TwiceFirst s low until n
     block_twice e until within =
-        let given = e.given refl in
+        let given = e in
         let sought = given.1 in
         let k = sought.0 in
         let from = block.from k sought.1 in
@@ -141,12 +142,11 @@ module _ (s : List ℕ) (low p n : ℕ) (b : Begins s p n) (place before last : 
     e-suc = omega (arith, b.some)
 
     -- no heading
-    pub block_none : Entered 0 s p count place before last place' before' last' → Block s low (n + 1 - 1) place' before' last' (count + 0)
+    pub block_none : Entered NoHeading s p count place before last place' before' last' → Block s low (n + 1 - 1) place' before' last' count
     block_none e =
-        let none = e.none refl in
-        let z : count + 0 ≡ count = omega arith in
+        let none = e in
         let nothing : (old : Line) → No (gives_same old (nth s (n - 1))) = λ old is. none.0 (sym (ap kind_of here) ∙ same_kind old (nth s (n - 1)) is) in
-        rw (e-suc, z, none.1, none.2, none.3)
+        rw (e-suc, none.1, none.2, none.3)
         record {
           table = block.table;
           from = λ k less. (let f = block.from k less in (f.0, omega (arith, f.1), f.2));
@@ -162,12 +162,12 @@ module _ (s : List ℕ) (low p n : ℕ) (b : Begins s p n) (place before last : 
             by (no differs) = block.all i above (omega (arith, differs)) name is
 
     -- a new heading
-    module _ (e : Entered 1 s p count place before last place' before' last') (there : p ≤ length s) (room : count < table_size) where
+    module _ (e : Entered New s p count place before last place' before' last') (there : p ≤ length s) (room : count < table_size) where
       is : nth s (n - 1) ≡ heading (name_at s p)
-      is = here ∙ heading-bytes (name_at s p) (e.new refl).0
+      is = here ∙ heading-bytes (name_at s p) e.0
 
       placed : place' ≡ set place count p
-      placed = (e.new refl).2
+      placed = e.2
 
       name-last : name_of s place' count ≡ name_at s p
       name-last = ap (λ l. name_of s l count) placed ∙ ap (name_at s) (get_or-set_same place count p 0 (omega (arith, block.table.sized.0)))
@@ -196,23 +196,17 @@ module _ (s : List ℕ) (low p n : ℕ) (b : Begins s p n) (place before last : 
           let both = both_head (nth s i) (nth s (n - 1)) g in
           let o = block.all i above less both.0 both.1 in
           let same' : same (name_at s p) both.0 ≡ true = sym (ap (gives both.0) is) ∙ both.2 in
-          (e.new refl).1 o.0 o.1 (ap (same (name_at s p)) o.2 ∙ same')
+          e.1 o.0 o.1 (ap (same (name_at s p)) o.2 ∙ same')
 
       pub block_new : Block s low (n + 1 - 1) place' before' last' (count + 1)
       block_new =
           rw e-suc
           record {
-            table = rw (placed, (e.new refl).3, (e.new refl).4) (table_more s place before last count block.table p there room);
+            table = rw (placed, e.3, e.4) (table_more s place before last count block.table p there room);
             from = λ k less. from-new k less (ℕ_discrete k count);
             all = λ i above less name g. all_new i (ℕ_discrete i (n - 1)) above less name g;
             once = once_more s low (n - 1) block.once once-new;
           }
-
-    pub block_on : (e : ℕ) → Entered e s p count place before last place' before' last' → (e ≡ 2 → ⊥) → p ≤ length s → count < table_size → Block s low (n + 1 - 1) place' before' last' (count + e)
-    block_on zero entered not-2 there room = block_none entered
-    block_on (suc zero) entered not-2 there room = block_new entered there room
-    block_on (suc (suc zero)) entered not-2 there room = absurd (not-2 refl)
-    block_on (suc (suc (suc e))) entered not-2 there room = absurd (omega (arith, entered.small))
 
 -- ---- what is told of a filling
 

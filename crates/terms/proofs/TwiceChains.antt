@@ -9,6 +9,7 @@ use lib.ListN.{length, get_or, set, length-set, get_or-eq_default}
 use lib.Seq.{get_or-set_same, get_or-set_other}
 use Rattle.tagged.specs.Lines.{Name, Line, heading, broader, narrower, other, same}
 use Rattle.terms.specs.Places.{end_of, bytes_of}
+use Rattle.terms.specs.declared.judge.Entry.TheVariants.{Given, New, NoHeading}
 use Rattle.terms.specs.Blocks.{hash_from, hash_of, table_size, Sized, Cleared, Chained, Headed, Sought, name_of, Inside, Table, Entered, KnownBy, gives}
 use Rattle.terms.specs.Judging.{kind_of, name_at, line_at}
 use Rattle.terms.proofs.JudgeWays.{heading-bytes}
@@ -224,9 +225,9 @@ table_none s place before last a b c =
 
 -- ---- a line looked up
 
-pub entered_none : (s : List ℕ) (at n : ℕ) (place before last : List ℕ) → (kind_of (line_at s at) ≡ 1 → ⊥) → Entered 0 s at n place before last place before last
+pub entered_none : (s : List ℕ) (at n : ℕ) (place before last : List ℕ) → (kind_of (line_at s at) ≡ 1 → ⊥) → Entered NoHeading s at n place before last place before last
 entered_none s at n place before last not-1 =
-    record { small = omega arith; none = λ _. (not-1, refl, refl, refl); new = λ e. absurd (omega arith); given = λ e. absurd (omega arith) }
+    (not-1, refl, refl, refl)
 
 module _ (s place before last : List ℕ) (n : ℕ) (t : Table s place before last n) (at to h : ℕ) (end : to ≡ end_of s at) (is : h ≡ hash_of (bytes_of s at to)) where
   pub asked : n ≤ table_size → to ≤ length s
@@ -241,21 +242,16 @@ module _ (s place before last : List ℕ) (n : ℕ) (t : Table s place before la
   found_in_lem false none = rw end at (sought_none s place before last n t (bytes_of s at to) (rw is at none))
 
   module _ (kind : kind_of (line_at s at) ≡ 1) (r : Bool) (told : Sought r s place (get_or last h 0) (bytes_of s at to)) where
-    pub entered_given : r ≡ true → Entered 2 s at n place before last place before last
+    pub entered_given : r ≡ true → Entered Given s at n place before last place before last
     entered_given e =
         let some : Sought true s place n (name_at s at) = rw e at (found_in_lem r told) in
-        record { small = omega arith; none = λ f. absurd (omega arith); new = λ f. absurd (omega arith); given = λ _. (kind, some) }
+        (kind, some)
 
-    pub entered_new : r ≡ false → Entered 1 s at n place before last (set place n at) (set before n (get_or last h 0)) (set last h (n + 1))
+    pub entered_new : r ≡ false → Entered New s at n place before last (set place n at) (set before n (get_or last h 0)) (set last h (n + 1))
     entered_new e =
         let none : Sought false s place n (name_at s at) = rw e at (found_in_lem r told) in
         let hash : h ≡ hash_of (name_at s at) = is ∙ ap (λ m. hash_of (bytes_of s at m)) end in
-        record {
-          small = omega arith;
-          none = λ f. absurd (omega arith);
-          new = λ _. (kind, none, refl, ap (λ g. set before n (get_or last g 0)) hash, ap (λ g. set last g (n + 1)) hash);
-          given = λ f. absurd (omega arith);
-        }
+        (kind, none, refl, ap (λ g. set before n (get_or last g 0)) hash, ap (λ g. set last g (n + 1)) hash)
 
 pub known-not : (s place : List ℕ) (at : ℕ) → (kind_of (line_at s at) ≡ 1 → ⊥) → KnownBy false s place at
 known-not s place at not-1 k less is = by (line_at s at) not-1 is

@@ -2,6 +2,8 @@
 use Rattle.std.specs.Prelude.{Option, Some, None, Bool, true, false, ◌≡◌, List, [], ◌∷◌, ℕ, ◌+◌, ◌*◌, ◌-◌, ◌%◌, ◌≤◌, ◌<◌, get_or, length, drop, set}
 use Rattle.tagged.specs.Lines.{Name, Line, heading, broader, narrower, other, same, lines_from, lines_of}
 use Rattle.terms.specs.Judging.{kind_of, name_at, line_at}
+use Rattle.terms.specs.declared.judge.Entry.{Entry}
+use Rattle.terms.specs.declared.judge.Entry.TheVariants.{Given, New, NoHeading}
 use Rattle.terms.specs.declared.judge.Filled.{Filled}
 use Rattle.terms.specs.declared.judge.Filled.TheVariants.{Twice, Full, Over}
 
@@ -99,13 +101,13 @@ abbrev pub Sought : Bool → List ℕ → List ℕ → ℕ → Name → Type 0
 Sought true s place n name = (k : ℕ) × (k < n) × (same name (name_of s place k) ≡ true)
 Sought false s place n name = (k : ℕ) → k < n → same name (name_of s place k) ≡ true → ⊥
 
--- what is told of the line at a place, with a table of n entries: 2 it gives one of them again, 1 it gives another, which is now entry n, 0 it gives none
-pub record Entered (r : ℕ) (s : List ℕ) (at n : ℕ) (place before last place' before' last' : List ℕ) : Type 0 where
-  pub small : r ≤ 2
-  pub none : r ≡ 0 → (kind_of (line_at s at) ≡ 1 → ⊥) × (place' ≡ place) × (before' ≡ before) × (last' ≡ last)
-  pub new : r ≡ 1 → (kind_of (line_at s at) ≡ 1) × Sought false s place n (name_at s at) × (place' ≡ set place n at)
-      × (before' ≡ set before n (get_or last (hash_of (name_at s at)) 0)) × (last' ≡ set last (hash_of (name_at s at)) (n + 1))
-  pub given : r ≡ 2 → (kind_of (line_at s at) ≡ 1) × Sought true s place n (name_at s at)
+-- what is told of the line at a place, with a table of n entries: it gives one of them again, it gives another, which is now entry n, or it gives none
+abbrev pub Entered : Entry → List ℕ → ℕ → ℕ → List ℕ → List ℕ → List ℕ → List ℕ → List ℕ → List ℕ → Type 0
+Entered Given s at n place before last place' before' last' = (kind_of (line_at s at) ≡ 1) × Sought true s place n (name_at s at)
+Entered New s at n place before last place' before' last' =
+    (kind_of (line_at s at) ≡ 1) × Sought false s place n (name_at s at) × (place' ≡ set place n at)
+    × (before' ≡ set before n (get_or last (hash_of (name_at s at)) 0)) × (last' ≡ set last (hash_of (name_at s at)) (n + 1))
+Entered NoHeading s at n place before last place' before' last' = (kind_of (line_at s at) ≡ 1 → ⊥) × (place' ≡ place) × (before' ≡ before) × (last' ≡ last)
 
 -- ---- a block: the headings of the lines from `low` on and below `high`
 

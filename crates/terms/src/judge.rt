@@ -153,6 +153,14 @@ fn in_table(
     false
 }
 
+// What a line is to a table of headings: it gives one of them again, a new one, or none.
+#[derive(Clone, Copy)]
+enum Entry {
+    Given,
+    New,
+    NoHeading,
+}
+
 // The line at `at` is looked up in a table of `count` entries, and its heading entered if it is not there.
 fn enter(
     s: &[u8],
@@ -161,7 +169,7 @@ fn enter(
     place: &mut [usize; TABLE],
     before: &mut [usize; TABLE],
     last: &mut [usize; TABLE],
-) -> usize
+) -> Entry
     requires table { Table s.now place.old before.old last.old count }
     requires bounds { (at ≤ length s.now) × (count < table_size) }
     ensures { Entered result s.now at count place.old before.old last.old
@@ -169,18 +177,18 @@ fn enter(
 {
     let kind = kind_at(s, at);
     if kind != 1 {
-        return 0;
+        return Entry::NoHeading;
     }
     let to = line_end(s, at);
     let h = hash_of(s, at, to);
     let from = last[h];
     if in_table(s, place, before, from, at, to) {
-        return 2;
+        return Entry::Given;
     }
     place[count] = at;
     before[count] = from;
     last[h] = count + 1;
-    1
+    Entry::New
 }
 
 // The table is filled with the headings from line `line` at `at` on, up to line `until`: each is looked up and, if it is new, entered.
@@ -213,11 +221,11 @@ fn fill(
         if count == TABLE {
             return Filled::Full { at: p, line: n };
         }
-        let e = enter(s, p, count, place, before, last);
-        if e == 2 {
-            return Filled::Twice(n);
+        match enter(s, p, count, place, before, last) {
+            Entry::Given => return Filled::Twice(n),
+            Entry::New => count += 1,
+            Entry::NoHeading => {}
         }
-        count += e;
         n += 1;
         p = to + 1;
     }

@@ -8,8 +8,9 @@ use Rattle.terms.specs.Places.{end_of}
 use Rattle.terms.specs.Blocks.{table_size}
 use Rattle.terms.proofs.LineWays.{end_after}
 use Rattle.terms.proofs.TwiceChains.{table_none}
-use Rattle.terms.proofs.TwiceBlocks.{block_start, begins-on, over-past, over-cut, over_until, block_twice, block_on, told_over, told-twice, told-full}
+use Rattle.terms.proofs.TwiceBlocks.{block_start, begins-on, over-past, over-cut, over_until, block_twice, block_new, block_none, told_over, told-twice, told-full}
 use Rattle.terms.proofs.judge.fill.Goals as goal
+use Rattle.terms.proofs.judge.fill.Goals.{in-New, in-NoHeading}
 
 pub clear-requires : goal.clear-requires
 clear-requires c = c.requires.rows.2
@@ -47,26 +48,26 @@ returns-then-count-eq-TABLE c =
     let full : loop.count ≡ table_size = c.if-count-eq-TABLE.true in
     told-full s a.at a.line a.until loop.p loop.n loop.place loop.before loop.last (rw full at loop.invariant.1) loop.invariant.0 (omega (arith, loop.invariant.3)) loop.invariant.2
 
-pub enter-e-requires : goal.enter-e-requires
-enter-e-requires c =
+pub enter-requires : goal.enter-requires
+enter-requires c =
     let loop = c.loop-p in
     record { table = loop.invariant.1.table; bounds = (omega arith, omega (arith, loop.invariant.4, c.if-count-eq-TABLE.false)) }
 
-pub returns-then-e-eq2 : goal.returns-then-e-eq2
-returns-then-e-eq2 c =
+pub returns-in-Given : goal.returns-in-Given
+returns-in-Given c =
     let loop = c.loop-p in
     let a = c.args in
     let s = a.s.now in
     let to = c.line_end-to.ensures in
-    let entered = rw c.if-e-eq2.true at c.enter-e.ensures in
-    told-twice s a.at a.line a.until loop.p loop.n c.enter-e.new.place c.enter-e.new.before c.enter-e.new.last
+    let entered = c.in-Given.ensures in
+    told-twice s a.at a.line a.until loop.p loop.n c.enter.new.place c.enter.new.before c.enter.new.last
     (block_twice s (a.line - 1) loop.p loop.n loop.invariant.0 loop.place loop.before loop.last loop.count loop.invariant.1
-    (omega (arith, c.if-s-to.false)) c.enter-e.new.place c.enter-e.new.before c.enter-e.new.last entered a.until c.if-until-n.false)
+    (omega (arith, c.if-s-to.false)) c.enter.new.place c.enter.new.before c.enter.new.last entered a.until c.if-until-n.false)
 
 pub overflow_add-count : goal.overflow_add-count
 overflow_add-count c =
     let loop = c.loop-p in
-    let fits : loop.count + c.enter-e.result ≤ 8194 = omega (arith, loop.invariant.4, c.enter-e.ensures.small) in
+    let fits : loop.count + 1 ≤ 8194 = omega (arith, loop.invariant.4) in
     search rules
 
 pub overflow_add-n : goal.overflow_add-n
@@ -92,14 +93,30 @@ loop-p-preserved c =
     let to = c.line_end-to.ensures in
     let later = end_after s loop.p in
     let inside : end_of s loop.p < length s = omega (arith, c.if-s-to.false) in
-    let few : c.enter-e.result ≤ 1 = omega (arith, c.enter-e.ensures.small, c.if-e-eq2.false) in (
-      rw to (begins-on s loop.p loop.n loop.invariant.0 inside (omega arith) later),
-      block_on s (a.line - 1) loop.p loop.n loop.invariant.0 loop.place loop.before loop.last loop.count loop.invariant.1
-          inside c.enter-e.new.place c.enter-e.new.before c.enter-e.new.last c.enter-e.result c.enter-e.ensures c.if-e-eq2.false (omega (arith, c.loop-p-test.true)) (omega (arith, loop.invariant.4, c.if-count-eq-TABLE.false)),
-      omega (arith, loop.invariant.2),
-      omega (arith, loop.invariant.3),
-      omega (arith, loop.invariant.4, c.if-count-eq-TABLE.false),
-    )
+    let there : loop.p ≤ length s = omega (arith, c.loop-p-test.true) in
+    let room : loop.count < table_size = omega (arith, loop.invariant.4, c.if-count-eq-TABLE.false) in
+    let begun = begins-on s loop.p loop.n loop.invariant.0 inside (omega arith) later in
+    let new = c.enter.new in
+    elim c.match-enter.branch [
+      | in-New w ↦
+          rw w.count-is (
+            rw to begun,
+            block_new s (a.line - 1) loop.p loop.n loop.invariant.0 loop.place loop.before loop.last loop.count loop.invariant.1
+                inside new.place new.before new.last w.in-New.ensures there room,
+            omega (arith, loop.invariant.2),
+            omega (arith, loop.invariant.3),
+            omega arith,
+          )
+      | in-NoHeading w ↦
+          rw w.count-is (
+            rw to begun,
+            block_none s (a.line - 1) loop.p loop.n loop.invariant.0 loop.place loop.before loop.last loop.count loop.invariant.1
+                inside new.place new.before new.last w.in-NoHeading.ensures,
+            omega (arith, loop.invariant.2),
+            omega (arith, loop.invariant.3),
+            loop.invariant.4,
+          )
+    ]
 
 pub returns : goal.returns
 returns c =
