@@ -140,7 +140,11 @@ module _ (S : Symbols) (h : Heap) where
     unfolding met_by
     anew_says n (apply f xs) is = by (ltb f (length S)) refl
       where
-        by : (b : Bool) → ltb f (length S) ≡ b → Says (Met S h n) (elim b [ true ↦ joined (get_or met n Nothing) (One (sort_of S f)) | false ↦ get_or met n Nothing ])
+        by : (b : Bool) → ltb f (length S) ≡ b → Says (Met S h n) (elim b [
+          | true ↦ joined (get_or met n Nothing)
+              (One (sort_of S f))
+          | false ↦ get_or met n Nothing
+        ])
         by true q = join-says (says n) (Says.one
             (record { node = n; symbol = f; arguments = xs; meets = Meets.here; is = is; known = ltb-true _ _ q; sorted = refl }))
         by false q = says n
@@ -150,7 +154,8 @@ module _ (S : Symbols) (h : Heap) where
     anew_says n (forward t) is = join-says (says n) (says_on (λ s. met-on (λ m p. Meets.along is p)) (says t))
 
     -- and leaves less to change, if it is something else
-    anew_less : (n : ℕ) (x : Node) → (met_by S met (get_or met n Nothing) x ≡ get_or met n Nothing → ⊥) → left_of (met_by S met (get_or met n Nothing) x) < left_of (get_or met n Nothing)
+    anew_less : (n : ℕ) (x : Node) → (met_by S met (get_or met n Nothing) x ≡ get_or met n Nothing → ⊥)
+        → left_of (met_by S met (get_or met n Nothing) x) < left_of (get_or met n Nothing)
     unfolding met_by
     anew_less n (apply f xs) other = by (ltb f (length S)) other
       where
@@ -174,7 +179,8 @@ module _ (S : Symbols) (h : Heap) where
         by : met_by S met (get_or met n Nothing) (at h n) ≡ get_or met n Nothing → joined (get_or met n Nothing) (One (sort_of S f)) ≡ get_or met n Nothing
         by e = rw (is, lt-ltb f (length S) known, met_by) at e
     closed-met closed {n} {f = f} (Meets.along {t = t} e p) is known =
-        join_covers (get_or met n Nothing) (get_or met t Nothing) (sort_of S f) (rw (e, met_by) at (closed n (there h n (forward≢fail e)))) (closed-met closed p is known)
+        join_covers (get_or met n Nothing) (get_or met t Nothing) (sort_of S f) (rw (e, met_by) at (closed n (there h n (forward≢fail e))))
+        (closed-met closed p is known)
     closed-met closed {n} {f = f} (Meets.left {l = l} {r} e p) is known =
         join_covers (get_or met n Nothing) (get_or met l Nothing) (sort_of S f)
         (join-both (get_or met n Nothing) (get_or met l Nothing) (get_or met r Nothing)
@@ -193,7 +199,8 @@ unfolding all_left
 all-left-past zero i v met le = refl
 all-left-past (suc n) i v met le = ap₂ ◌+◌ (ap left_of (get_or-set_other met i n v Nothing (λ q. omega arith))) (all-left-past n i v met (omega arith))
 
-all-left-less : (n i : ℕ) (v : Said) (met : List Said) → i < n → i < length met → left_of v < left_of (get_or met i Nothing) → all_left n (set met i v) < all_left n met
+all-left-less : (n i : ℕ) (v : Said) (met : List Said) → i < n → i < length met → left_of v < left_of (get_or met i Nothing)
+    → all_left n (set met i v) < all_left n met
 unfolding all_left
 all-left-less zero i v met lt inside less = absurd (omega arith)
 all-left-less (suc n) i v met lt inside less = by (ℕ_discrete n i) (λ lt. all-left-less n i v met lt inside less)
@@ -201,7 +208,8 @@ all-left-less (suc n) i v met lt inside less = by (ℕ_discrete n i) (λ lt. all
     by : Dec (n ≡ i) → (i < n → all_left n (set met i v) < all_left n met)
         → left_of (get_or (set met i v) n Nothing) + all_left n (set met i v) < left_of (get_or met n Nothing) + all_left n met
     by (yes q) ih =
-        let now : left_of (get_or (set met i v) n Nothing) ≡ left_of v = ap left_of (ap (λ (k : ℕ). get_or (set met i v) k Nothing) q ∙ get_or-set_same met i v Nothing inside) in
+        let now : left_of (get_or (set met i v) n Nothing) ≡ left_of v =
+        ap left_of (ap (λ (k : ℕ). get_or (set met i v) k Nothing) q ∙ get_or-set_same met i v Nothing inside) in
         let was : left_of (get_or met n Nothing) ≡ left_of (get_or met i Nothing) = ap (λ (k : ℕ). left_of (get_or met k Nothing)) q in
         omega (arith, now, was, less, all-left-past n i v met (omega arith))
     by (no q) ih = omega (arith, ap left_of (get_or-set_other met i n v Nothing q), ih (between n i lt q))

@@ -22,7 +22,8 @@ module _ (book table m : List ℕ) (met : List Said) (n : ℕ) (own : Said) wher
   abbrev said : Said
   said = met_by S met own (node_in S m n)
 
-  pub said_known : (kind f s : ℕ) (r : Said) → kind ≡ kind_in m n → kind ≡ 0 → f ≡ label_in m n → f < length table → s ≡ (symbol_in book (get_or table f 0)).sort
+  pub said_known : (kind f s : ℕ) (r : Said) → kind ≡ kind_in m n → kind ≡ 0 → f ≡ label_in m n → f < length table
+      → s ≡ (symbol_in book (get_or table f 0)).sort
       → r ≡ joined own (One s) → r ≡ said
   unfolding met_by node_by
   said_known kind f s r k is l lt sort e =
@@ -36,7 +37,8 @@ module _ (book table m : List ℕ) (met : List Said) (n : ℕ) (own : Said) wher
       let unknown : length S ≤ label_in m n = omega (arith, l, past, as_many book table) in
       rw (sym k ∙ is, met_by, le-ltb (label_in m n) (length S) unknown) refl
 
-  pub said_choice : (kind : ℕ) (a b i r : Said) → kind ≡ kind_in m n → kind ≡ 1 → a ≡ get_or met (arrow_in m n 0) Nothing → b ≡ get_or met (arrow_in m n 1) Nothing
+  pub said_choice : (kind : ℕ) (a b i r : Said) → kind ≡ kind_in m n → kind ≡ 1 → a ≡ get_or met (arrow_in m n 0) Nothing
+      → b ≡ get_or met (arrow_in m n 1) Nothing
       → i ≡ joined own a → r ≡ joined i b → r ≡ said
   unfolding met_by node_by
   said_choice kind a b i r k is l q first e = e ∙ rw (first, l, q, sym k ∙ is, met_by) refl

@@ -30,7 +30,8 @@ all_more : {h : Heap} {seen : List Bool} {y : ℕ} (x : ℕ) → x < length seen
 all_more {seen = seen} x inside all = record { each = λ z a lt. see_more seen x z inside (all.each z a lt) }
 
 -- a node that is not seen is seen and put on the stack
-push : {h : Heap} {n : ℕ} {P : ℕ → Type 0} {seen : List Bool} {stack : List ℕ} {top : ℕ} (x : ℕ) → x < length h → x < length seen → top < length stack → Path h n x
+push : {h : Heap} {n : ℕ} {P : ℕ → Type 0} {seen : List Bool} {stack : List ℕ} {top : ℕ} (x : ℕ) → x < length h → x < length seen → top < length stack
+    → Path h n x
     → Searching h n P seen stack top → Searching h n P (set seen x true) (set stack top x) (suc top)
 push {h} {n} {P} {seen} {stack} {top} x lt inside room path s = record {
   reached = λ y. reached y (ℕ_discrete y x);
@@ -94,7 +95,8 @@ step : {h : Heap} {n from x : ℕ} → (from ≡ n) ⊎ Path h n from → Arrow 
 step {h} {n} {from} {x} (inl q) a = Path.one {n = n} (subst (λ (y : ℕ). Arrow x (at h y)) q a)
 step (inr p) a = path_end p a
 
-module _ {h : Heap} {from : ℕ} {seen : List Bool} {stack : List ℕ} {height : ℕ} {seen' : List Bool} {stack' : List ℕ} {top j : ℕ} (p : Putting h from seen stack height seen' stack' top j)
+module _ {h : Heap} {from : ℕ} {seen : List Bool} {stack : List ℕ} {height : ℕ} {seen' : List Bool} {stack' : List ℕ} {top j : ℕ}
+    (p : Putting h from seen stack height seen' stack' top j)
     (x : ℕ) (is : get_or (arrows_of (at h from)) j 0 ≡ x) where
   -- the j-th is seen already, or leads outside
   pub putting_on : (x < length h → Seen seen' x) → Putting h from seen stack height seen' stack' top (j + 1)
@@ -163,7 +165,8 @@ putting_last {h} {from} {seen' = seen'} {stack'} {top} {j} p le = record {
 -- ---- the stack
 
 -- the top of the stack is taken off
-pub pop : {h : Heap} {n : ℕ} {seen : List Bool} {stack : List ℕ} {k : ℕ} → Searching h n (λ y. ⊥) seen stack (suc k) → Searching h n (λ y. y ≡ get_or stack k 0) seen stack k
+pub pop : {h : Heap} {n : ℕ} {seen : List Bool} {stack : List ℕ} {k : ℕ} → Searching h n (λ y. ⊥) seen stack (suc k)
+    → Searching h n (λ y. y ≡ get_or stack k 0) seen stack k
 pop {h} {n} {seen} {stack} {k} s = record { reached = s.reached; stacked = λ i lt. s.stacked i (omega arith); done = λ y is. by y (s.done y is) }
   where
     by : (y : ℕ) → ⊥ ⊎ (OnStack stack (suc k) y ⊎ AllSeen h seen y) → (y ≡ get_or stack k 0) ⊎ (OnStack stack k y ⊎ AllSeen h seen y)

@@ -35,7 +35,8 @@ module _ (S : Symbols) (h : Heap) (met : List Said) (all : AllMet S h met) (n s 
             sorted = refl;
           }))
         where
-          go : (t : ℕ) → t ≢ s → (get_or met n Nothing ≡ Nothing) ⊎ (get_or met n Nothing ≡ One s) → (get_or met n Nothing ≡ One t) ⊎ (get_or met n Nothing ≡ Several) → ⊥
+          go : (t : ℕ) → t ≢ s → (get_or met n Nothing ≡ Nothing) ⊎ (get_or met n Nothing ≡ One s)
+              → (get_or met n Nothing ≡ One t) ⊎ (get_or met n Nothing ≡ Several) → ⊥
           go t o (inl q) (inl r) = let z : ◌≡◌ {A = ℕ} 0 1 = cc in omega arith
           go t o (inl q) (inr r) = let z : ◌≡◌ {A = ℕ} 0 1 = cc in omega arith
           go t o (inr q) (inl r) = o (cc)

@@ -86,7 +86,8 @@ module _ (met : List Said) where
   unfit-none-left (x ∷ xs) (s ∷ ss) (suc j) le = unfit-none-left xs ss j (omega arith)
 
   one_more : (xs ss : List ℕ) (j : ℕ) → j < length xs → j < length ss
-      → some_unfit met (drop j xs) (drop j ss) ≡ (unfit (get_or met (get_or xs j 0) Nothing) (get_or ss j 0) || some_unfit met (drop (suc j) xs) (drop (suc j) ss))
+      → some_unfit met (drop j xs) (drop j ss) ≡ (unfit (get_or met (get_or xs j 0) Nothing) (get_or ss j 0) || some_unfit met (drop (suc j) xs)
+      (drop (suc j) ss))
   unfolding some_unfit
   one_more [] ss j lx ls = absurd (omega arith)
   one_more (x ∷ xs) [] j lx ls = absurd (omega arith)
