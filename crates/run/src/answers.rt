@@ -6,7 +6,7 @@ ghost use Rattle.machine.specs.Answers.{decision_numbers, two_bytes_each};
 ghost use Rattle.standing.specs.Held.{Decided, written_at};
 ghost use Rattle.run.specs.AnswerContracts.{SymbolsAsked, SymbolsTold, RowAsked, RowTold, RecordAsked, RecordTold};
 
-use super::walk::wide;
+use super::walk::{Indexed, wide};
 use limits::{Decisions, Limits, Side};
 use nodes::{Kind, arrow_at, follow, kind_at, label_at};
 use symbols::table::arity_of;
@@ -23,8 +23,7 @@ fn put_two(bytes: &mut [u8], p: usize, n: usize)
 // The symbols from where an arrow leads down, two bytes each, from p on: the place behind. `depth` bounds how deep they stand.
 #[cycle(put_row_put_symbols)]
 fn put_symbols(
-    book: &[u8],
-    table: &[u16],
+    book: Indexed,
     nodes: &[u16],
     used: usize,
     bytes: &mut [u8],
@@ -32,8 +31,8 @@ fn put_symbols(
     arrow: u16,
     p: usize,
 ) -> usize
-    requires { SymbolsAsked book.now table.now nodes.now used bytes.old depth arrow p }
-    ensures { SymbolsTold book.now table.now nodes.now used bytes.old depth arrow p result bytes.new }
+    requires { SymbolsAsked book.bytes.now book.table.now nodes.now used bytes.old depth arrow p }
+    ensures { SymbolsTold book.entry.bytes.now book.entry.table.now nodes.now used bytes.old depth arrow p result bytes.new }
 {
     if depth == 0 {
         return p;
@@ -46,14 +45,13 @@ fn put_symbols(
     put_two(bytes, p, f);
     put_row(
         book,
-        table,
         nodes,
         used,
         bytes,
         depth - 1,
         n,
         0,
-        arity_of(book, table, f),
+        arity_of(book.bytes, book.table, f),
         p + 2,
     )
 }
@@ -61,8 +59,7 @@ fn put_symbols(
 // The same of the arguments of node n, from the j-th on.
 #[cycle(put_row_put_symbols)]
 fn put_row(
-    book: &[u8],
-    table: &[u16],
+    book: Indexed,
     nodes: &[u16],
     used: usize,
     bytes: &mut [u8],
@@ -72,15 +69,15 @@ fn put_row(
     arity: usize,
     p: usize,
 ) -> usize
-    requires { RowAsked book.now table.now nodes.now used bytes.old depth n j arity p }
-    ensures { RowTold book.now table.now nodes.now used bytes.old depth n j p result bytes.new }
+    requires { RowAsked book.bytes.now book.table.now nodes.now used bytes.old depth n j arity p }
+    ensures { RowTold book.entry.bytes.now book.entry.table.now nodes.now used bytes.old depth n j p result bytes.new }
 {
     if arity <= j {
         return p;
     }
     let arrow = arrow_at(nodes, n, j as u16);
-    let q = put_symbols(book, table, nodes, used, bytes, depth, arrow, p);
-    put_row(book, table, nodes, used, bytes, depth, n, j + 1, arity, q)
+    let q = put_symbols(book, nodes, used, bytes, depth, arrow, p);
+    put_row(book, nodes, used, bytes, depth, n, j + 1, arity, q)
 }
 
 // The numbers of the decided choices, in rising order, two bytes each, from p on.
@@ -106,8 +103,7 @@ fn put_decisions(bytes: &mut [u8], ds: Decisions, from: usize)
 
 // The record of a value of so many symbols, `size` bytes in all, from p on.
 pub(crate) fn put_record(
-    book: &[u8],
-    table: &[u16],
+    book: Indexed,
     nodes: &[u16],
     used: usize,
     bytes: &mut [u8],
@@ -117,20 +113,11 @@ pub(crate) fn put_record(
     size: usize,
     p: usize,
 )
-    requires { RecordAsked book.now table.now nodes.now used bytes.old root ds symbols size p }
-    ensures { RecordTold book.now table.now nodes.now used bytes.old root ds p bytes.new }
+    requires { RecordAsked book.bytes.now book.table.now nodes.now used bytes.old root ds symbols size p }
+    ensures { RecordTold book.entry.bytes.now book.entry.table.now nodes.now used bytes.old root ds p bytes.new }
 {
     put_two(bytes, p, size - 2);
     put_two(bytes, p + 2, symbols);
-    let q = put_symbols(
-        book,
-        table,
-        nodes,
-        used,
-        bytes,
-        Limits::DEPTH + 1,
-        root,
-        p + 4,
-    );
+    let q = put_symbols(book, nodes, used, bytes, Limits::DEPTH + 1, root, p + 4);
     put_decisions(bytes, ds, q);
 }
