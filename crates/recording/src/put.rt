@@ -24,63 +24,53 @@ pub(crate) fn put_two(bytes: &mut [u8], p: usize, n: u16) -> usize
     p + 2
 }
 
-// The symbols from where an arrow leads down, two bytes each, from p on: the place behind. `depth` bounds how deep they stand.
-#[cycle(put_row_put_symbols)]
-pub(crate) fn put_symbols(
-    shapes: &[u8; Limits::SYMBOLS],
-    nodes: &[u16],
-    used: usize,
-    bytes: &mut [u8],
-    depth: usize,
-    arrow: u16,
-    p: usize,
-) -> usize
-    ensures { SymbolsTold shapes.now nodes.now used bytes.old depth arrow p result bytes.new }
-{
-    if depth == 0 {
-        return p;
-    }
-    let n = end_of(nodes, used, arrow);
-    if kind_at(nodes, n) != Kind::Apply as u16 {
-        return p;
-    }
-    let f = label_at(nodes, n);
-    let q = put_two(bytes, p, f);
-    put_row(
-        shapes,
-        nodes,
-        used,
-        bytes,
-        depth - 1,
-        n,
-        0,
-        arity_in(shapes, f),
-        q,
-    )
+// The nodes that a value is read from, and the shapes of their symbols.
+#[derive(Clone, Copy)]
+pub struct Lent<'a> {
+    pub shapes: &'a [u8; Limits::SYMBOLS],
+    pub nodes: &'a [u16],
+    pub used: usize,
 }
 
-// The same of the arguments of node n, from the j-th on.
-#[cycle(put_row_put_symbols)]
-fn put_row(
-    shapes: &[u8; Limits::SYMBOLS],
-    nodes: &[u16],
-    used: usize,
-    bytes: &mut [u8],
-    depth: usize,
-    n: u16,
-    j: usize,
-    arity: usize,
-    p: usize,
-) -> usize
-    requires { arity < 128 }
-    ensures { RowTold shapes.now nodes.now used bytes.old depth n j arity p result bytes.new }
-{
-    if arity <= j {
-        return p;
+impl<'a> Lent<'a> {
+    // The symbols from where an arrow leads down, two bytes each, from p on: the place behind. `depth` bounds how deep they stand.
+    #[cycle(put_row_put_symbols)]
+    pub(crate) fn put_symbols(self, bytes: &mut [u8], depth: usize, arrow: u16, p: usize) -> usize
+        ensures { SymbolsTold self.entry.shapes.now self.entry.nodes.now self.entry.used bytes.old depth arrow p result bytes.new }
+    {
+        if depth == 0 {
+            return p;
+        }
+        let n = end_of(self.nodes, self.used, arrow);
+        if kind_at(self.nodes, n) != Kind::Apply as u16 {
+            return p;
+        }
+        let f = label_at(self.nodes, n);
+        let q = put_two(bytes, p, f);
+        self.put_row(bytes, depth - 1, n, 0, arity_in(self.shapes, f), q)
     }
-    let arrow = arrow_at(nodes, n, j as u16);
-    let q = put_symbols(shapes, nodes, used, bytes, depth, arrow, p);
-    put_row(shapes, nodes, used, bytes, depth, n, j + 1, arity, q)
+
+    // The same of the arguments of node n, from the j-th on.
+    #[cycle(put_row_put_symbols)]
+    fn put_row(
+        self,
+        bytes: &mut [u8],
+        depth: usize,
+        n: u16,
+        j: usize,
+        arity: usize,
+        p: usize,
+    ) -> usize
+        requires { arity < 128 }
+        ensures { RowTold self.entry.shapes.now self.entry.nodes.now self.entry.used bytes.old depth n j arity p result bytes.new }
+    {
+        if arity <= j {
+            return p;
+        }
+        let arrow = arrow_at(self.nodes, n, j as u16);
+        let q = self.put_symbols(bytes, depth, arrow, p);
+        self.put_row(bytes, depth, n, j + 1, arity, q)
+    }
 }
 
 // The numbers of the bits of a word that are set, of which the lowest is bit `first` of the set, two bytes each, from p on: the place behind.

@@ -1,7 +1,7 @@
 // A whole record.
 ghost use Rattle.recording.specs.RecordContracts.{RecordTold};
 
-use super::put::{put_decisions, put_symbols, put_two};
+use super::put::{Lent, put_decisions, put_two};
 use limits::{Decisions, Limits};
 
 // The value of so many symbols at the root is recorded behind the first `written` bytes, with its question's number if the run took a row: how many
@@ -38,7 +38,12 @@ pub fn record_answer(
         p = put_two(bytes, p, question);
     }
     p = put_two(bytes, p, symbols as u16);
-    p = put_symbols(shapes, nodes, used, bytes, Limits::DEPTH + 1, root, p);
+    let lent = Lent {
+        shapes,
+        nodes,
+        used,
+    };
+    p = lent.put_symbols(bytes, Limits::DEPTH + 1, root, p);
     put_decisions(bytes, ds, p);
     size
 }

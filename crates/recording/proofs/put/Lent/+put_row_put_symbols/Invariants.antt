@@ -1,6 +1,6 @@
 -- What the loops of `+put_row_put_symbols` keep.
 use Prim.Native.Nat.{◌+◌, ◌-◌, ◌*◌}
-use Rattle.recording.proofs.put.+put_row_put_symbols.Given as goal
+use Rattle.recording.proofs.put.Lent.+put_row_put_symbols.Given as goal
 
 -- the depth falls from an apply to its arguments, of which there are fewer than 128, and those left fall along a row
 abbrev pub decreases-put_row : goal.decreases-put_row

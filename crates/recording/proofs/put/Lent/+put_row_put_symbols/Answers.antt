@@ -11,7 +11,7 @@ use Rattle.standing.proofs.Behind.{numbers-none}
 use Rattle.standing.proofs.ValueSymbols.{row-end, none_at_zero, none-at-others, some-at-apply, argument-here}
 use Rattle.recording.proofs.RowBegun.{begun-none, begun_more, begun-one, begun-last}
 use Prim.Native.Nat.{◌-◌}
-use Rattle.recording.proofs.put.+put_row_put_symbols.Goals as goal
+use Rattle.recording.proofs.put.Lent.+put_row_put_symbols.Goals as goal
 
 pub put_row-returns-then-arity-j : goal.put_row-returns-then-arity-j
 put_row-returns-then-arity-j t c =
@@ -54,7 +54,7 @@ put_symbols-returns t c =
     some-at-apply held a.arrow node.result inside node.ensures a.depth c.if-depth-eq0.false
     (sym c.kind_at.ensures ∙ c.if-kind_at.false) in
     let label = c.label_at-f.ensures in
-    let many = arity.ensures.0 ∙ ap (arity_in a.shapes.now) label ∙ found.many in
+    let many = arity.ensures.0 ∙ ap (arity_in a.self.shapes.now) label ∙ found.many in
     let all = symbols_from a.depth h a.arrow in
     let row = row_from (symbols_from (a.depth - 1) h) (arguments (at h node.result)) in
     let named-first = found.symbols ∙ ap (λ f. f ∷ row) (sym label) in
