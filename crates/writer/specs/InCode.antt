@@ -1,5 +1,7 @@
 -- What the writer's code holds and answers, in the words of the definitions.
-use Rattle.std.specs.Prelude.{List, ℕ, take, Result, Ok, Err}
+use Rattle.std.specs.Prelude.{List, ◌≡◌, ℕ, ◌+◌, ◌≤◌, length, take, Result, Ok, Err}
+use Rattle.std.proofs.lemmas.List.Edits.{sets}
+use Rattle.limits.specs.Sizes.{most_book_bytes}
 use Rattle.writer.specs.Layout as Layout
 use Rattle.writer.specs.Write as Write
 use Rattle.writer.specs.Write.{Writing, made, refused, Outcome}
@@ -18,6 +20,16 @@ next_by Symbol = Layout.symbol
 
 abbrev pub due_by : Due → Layout.Due
 due_by d = record { next = next_by d.next; expressions = d.expressions }
+
+-- xs were put behind the bytes that were there
+pub record Put (xs : List ℕ) (was is : Made) : Type 0 where
+  pub size : is.size ≡ was.size + length xs
+  pub bytes : is.bytes ≡ sets was.bytes was.size xs
+
+-- the same, as far as they fit
+pub record PutIfFits (xs : List ℕ) (was is : Made) : Type 0 where
+  pub size : is.size ≡ was.size + length xs
+  pub bytes : is.size ≤ most_book_bytes → is.bytes ≡ sets was.bytes was.size xs
 
 -- the numbers of the refusals
 abbrev pub number_of : Refusal → ℕ

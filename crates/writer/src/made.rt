@@ -1,16 +1,16 @@
 // The bytes of a book made from its rows, and judged as any book is.
-ghost use Rattle.std.specs.Prelude.{◌++◌, map, ◌≡◌, ◌≤◌, length, take, IfOk};
+ghost use Rattle.std.specs.Prelude.{◌++◌, map, ◌≡◌, ◌+◌, ◌≤◌, length, take, replicate, IfOk};
 ghost use Rattle.std.proofs.lemmas.List.Edits.{sets};
 ghost use Rattle.limits.specs.Sizes.{most_book_bytes, most_symbols};
 ghost use Rattle.symbols.specs.Table.{symbols_in, in_array};
 ghost use Rattle.writer.specs.Layout.{byte_of, arities_of, front_bytes, tree_part_bytes};
 ghost use Rattle.writer.specs.Write.{judged, made_of};
-ghost use Rattle.writer.specs.InCode.{writing_by};
+ghost use Rattle.writer.specs.InCode.{writing_by, Put};
 
 use super::Refusal;
 use super::put::{put_byte, put_two};
 use super::rows::count_rows;
-use super::trees::{byte_of, put_trees};
+use super::trees::byte_of;
 use book::{read_book, rows_read};
 use limits::Limits;
 use symbol_part::read_symbol_part;
@@ -23,24 +23,32 @@ pub struct Made {
     pub bytes: [u8; Limits::BOOK],
 }
 
-// Puts the numbers of the symbols' rows from p on.
-fn put_rows(rows: &[u16], book: &mut [u8], p: usize)
-    requires { (p ≤ most_book_bytes) × (length rows.now ≤ most_book_bytes) }
-    ensures { book.new ≡ sets book.old p (map byte_of rows.now) }
-{
-    for (i, n) in rows.iter().enumerate() {
-        put_byte(book, p + i, byte_of(*n));
+impl Made {
+    // Puts the numbers of the symbols' rows.
+    fn put_rows(&mut self, rows: &[u16])
+        requires { (self.old.size ≤ most_book_bytes) × (length rows.now ≤ most_book_bytes) }
+        ensures { Put (map byte_of rows.now) self.old self.new }
+    {
+        for n in rows {
+            put_byte(&mut self.bytes, self.size, byte_of(*n));
+            self.size += 1;
+        }
     }
 }
 
-// Puts the version byte and the symbol part.
-fn put_front(rows: &[u16], book: &mut [u8])
+// The version byte and the symbol part.
+fn front_of(rows: &[u16]) -> Made
     requires { length rows.now ≤ most_book_bytes }
-    ensures { book.new ≡ sets book.old 0 (front_bytes rows.now) }
+    ensures { (result.size ≡ 3 + length rows.now) × (result.bytes ≡ sets (replicate most_book_bytes 0) 0 (front_bytes rows.now)) }
 {
-    put_byte(book, 0, 1);
-    put_two(book, 1, rows.len());
-    put_rows(rows, book, 3);
+    let mut made = Made {
+        size: 3,
+        bytes: [0; Limits::BOOK],
+    };
+    put_byte(&mut made.bytes, 0, 1);
+    put_two(&mut made.bytes, 1, rows.len());
+    made.put_rows(rows);
+    made
 }
 
 // How many arguments each symbol takes.
@@ -55,28 +63,23 @@ fn arities_of(book: &[u8], at: &[u16]) -> [u8; Limits::SYMBOLS]
     arities
 }
 
-// The book, whose first `front` bytes were made and whose symbols take so many arguments, with its trees. `count` is the count of rows.
-fn with_trees(
-    mut bytes: [u8; Limits::BOOK],
-    front: usize,
-    arities: &[u8],
-    trees: &[u16],
-    count: usize,
-) -> Result<Made, Refusal>
-    requires { front ≤ most_book_bytes }
-    ensures { (writing_by result ≡ judged count (take front bytes ++ tree_part_bytes arities.now trees.now)) × IfOk result (λ m. m.size ≤ length m.bytes) }
+// The book, whose front was made and whose symbols take so many arguments, with its trees. `count` is the count of rows.
+fn with_trees(mut made: Made, arities: &[u8], trees: &[u16], count: usize) -> Result<Made, Refusal>
+    requires { made.size ≤ most_book_bytes }
+    ensures { (writing_by result ≡ judged count (take made.size made.bytes ++ tree_part_bytes arities.now trees.now)) × IfOk result (λ m. m.size ≤ length m.bytes) }
 {
     if Limits::BOOK < trees.len() {
         return Err(Refusal::NotABook { row: count });
     }
-    let size = put_trees(arities, trees, &mut bytes, front);
+    made.put_trees(arities, trees);
+    let size = made.size;
     if Limits::BOOK < size {
         return Err(Refusal::NotABook { row: count });
     }
-    match read_book(&bytes[..size]) {
-        Ok(_) => Ok(Made { size, bytes }),
+    match read_book(&made.bytes[..size]) {
+        Ok(_) => Ok(made),
         Err(_) => Err(Refusal::NotABook {
-            row: rows_read(&bytes[..size]),
+            row: rows_read(&made.bytes[..size]),
         }),
     }
 }
@@ -89,17 +92,16 @@ pub(crate) fn made_of(symbols: &[u16], trees: &[u16]) -> Result<Made, Refusal>
     if Limits::BOOK < 3 + symbols.len() {
         return Err(Refusal::NotABook { row: count });
     }
-    let mut bytes = [0u8; Limits::BOOK];
-    put_front(symbols, &mut bytes);
-    let front = 3 + symbols.len();
-    match read_symbol_part(&bytes[..front]) {
+    let made = front_of(symbols);
+    let front = made.size;
+    match read_symbol_part(&made.bytes[..front]) {
         Ok(part) => {
             let at = &part.at[..part.count];
-            let arities = arities_of(&bytes[..front], at);
-            with_trees(bytes, front, &arities[..part.count], trees, count)
+            let arities = arities_of(&made.bytes[..front], at);
+            with_trees(made, &arities[..part.count], trees, count)
         }
         Err(_) => Err(Refusal::NotABook {
-            row: rows_read(&bytes[..front]),
+            row: rows_read(&made.bytes[..front]),
         }),
     }
 }

@@ -1,13 +1,13 @@
 // The tree part of a book from its rows. A row is read along, to know which of its numbers are symbols: these take two bytes, as does the tree's length, which
 // stands for the number that opens the row; all others take one.
 ghost use Rattle.std.specs.Prelude.{◌≡◌, ◌+◌, ◌*◌, ◌<◌, ◌≤◌, length, get_or};
-ghost use Rattle.std.proofs.lemmas.List.Edits.{sets};
 ghost use Rattle.limits.specs.Sizes.{most_book_bytes};
 ghost use Rattle.writer.specs.Rows.{rows_in};
 ghost use Rattle.writer.specs.Layout.{byte_of, behind_tree, behind_expr, number_bytes, tree_row_bytes, item_bytes, items_bytes, tree_part_bytes};
 ghost use Rattle.writer.specs.Layout.{behind as behindIn};
-ghost use Rattle.writer.specs.InCode.{next_by, due_by};
+ghost use Rattle.writer.specs.InCode.{next_by, due_by, Put, PutIfFits};
 
+use super::made::Made;
 use super::put::{put_byte, put_two};
 use super::rows::behind_row;
 
@@ -116,77 +116,79 @@ fn behind(arities: &[u8], d: Due, n: u16) -> Due
     }
 }
 
-// Puts a number at p: the place behind it.
-fn put_number(book: &mut [u8], p: usize, next: Next, n: u16) -> usize
-    requires { p < 4294967296 }
-    ensures { (result ≡ p + length (number_bytes (next_by next) n)) × (result ≤ p + 2) × (book.new ≡ sets book.old p (number_bytes (next_by next) n)) }
-{
-    match next {
-        Next::Symbol => {
-            put_two(book, p, n as usize);
-            p + 2
+impl Made {
+    // Puts a number of a row.
+    fn put_number(&mut self, next: Next, n: u16)
+        requires { self.old.size < 4294967296 }
+        ensures put { Put (number_bytes (next_by next) n) self.old self.new }
+        ensures near { self.new.size ≤ self.old.size + 2 }
+    {
+        match next {
+            Next::Symbol => {
+                put_two(&mut self.bytes, self.size, n as usize);
+                self.size += 2;
+            }
+            _ => {
+                put_byte(&mut self.bytes, self.size, byte_of(n));
+                self.size += 1;
+            }
         }
-        _ => {
-            put_byte(book, p, byte_of(n));
-            p + 1
+    }
+
+    // Puts the numbers of a row.
+    fn put_numbers(&mut self, arities: &[u8], row: &[u16])
+        requires { (self.old.size < 32 * most_book_bytes) × (length row.now ≤ most_book_bytes) }
+        ensures put { Put (tree_row_bytes arities.now row.now) self.old self.new }
+        ensures near { self.new.size ≤ self.old.size + 2 * length row.now }
+    {
+        let mut d = Due {
+            next: Next::Code,
+            expressions: 0,
+        };
+        for n in row {
+            self.put_number(d.next, *n);
+            d = behind(arities, d, *n);
         }
     }
-}
 
-// Puts the numbers of a row from p on: the place behind them.
-fn put_numbers(arities: &[u8], row: &[u16], book: &mut [u8], p: usize) -> usize
-    requires { (p < 32 * most_book_bytes) × (length row.now ≤ most_book_bytes) }
-    ensures { (result ≡ p + length (tree_row_bytes arities.now row.now)) × (result ≤ p + 2 * length row.now) × (book.new ≡ sets book.old p (tree_row_bytes arities.now row.now)) }
-{
-    let mut d = Due {
-        next: Next::Code,
-        expressions: 0,
-    };
-    let mut q = p;
-    for n in row {
-        q = put_number(book, q, d.next, *n);
-        d = behind(arities, d, *n);
+    // Puts a tree behind its two-byte length. Its row says that it has n numbers; where some are missing the length runs past every book.
+    fn put_item(&mut self, arities: &[u8], n: usize, row: &[u16])
+        requires { (self.old.size < 16 * most_book_bytes) × (length row.now ≤ most_book_bytes) }
+        ensures put { PutIfFits (item_bytes arities.now (record { says = n; numbers = row.now })) self.old self.new }
+        ensures near { self.new.size ≤ self.old.size + 2 + 2 * length row.now }
+    {
+        let p = self.size;
+        self.size += 2;
+        self.put_numbers(arities, row);
+        let length = if row.len() < n {
+            PAST_EVERY_BOOK
+        } else {
+            self.size - (p + 2)
+        };
+        put_two(&mut self.bytes, p, length);
     }
-    q
-}
 
-// Puts a tree with its two-byte length at p: the place behind it. Its row says that it has n numbers; where some are missing the length runs past every
-// book.
-fn put_item(arities: &[u8], n: usize, row: &[u16], book: &mut [u8], p: usize) -> usize
-    requires { (p < 16 * most_book_bytes) × (length row.now ≤ most_book_bytes) }
-    ensures { (result ≡ p + length (item_bytes arities.now (record { says = n; numbers = row.now }))) × (result ≤ p + 2 + 2 * length row.now) × (result ≤ most_book_bytes → book.new ≡ sets book.old p (item_bytes arities.now (record { says = n; numbers = row.now }))) }
-{
-    let q = put_numbers(arities, row, book, p + 2);
-    let length = if row.len() < n {
-        PAST_EVERY_BOOK
-    } else {
-        q - (p + 2)
-    };
-    put_two(book, p, length);
-    q
-}
-
-// Puts the trees of all rows from p on: the place behind them.
-fn put_items(arities: &[u8], rows: &[u16], book: &mut [u8], p: usize) -> usize
-    requires { (p ≤ 2 + most_book_bytes) × (length rows.now ≤ most_book_bytes) }
-    ensures { (result ≡ p + length (items_bytes arities.now (rows_in rows.now))) × (result ≤ most_book_bytes → book.new ≡ sets book.old p (items_bytes arities.now (rows_in rows.now))) }
-{
-    let mut q = p;
-    let mut i: usize = 0;
-    while i < rows.len() {
-        let end = behind_row(rows, i);
-        q = put_item(arities, rows[i] as usize, &rows[i + 1..end], book, q);
-        i = end;
+    // Puts the trees of all rows.
+    fn put_items(&mut self, arities: &[u8], rows: &[u16])
+        requires { (self.old.size ≤ 2 + most_book_bytes) × (length rows.now ≤ most_book_bytes) }
+        ensures { PutIfFits (items_bytes arities.now (rows_in rows.now)) self.old self.new }
+    {
+        let mut i: usize = 0;
+        while i < rows.len() {
+            let end = behind_row(rows, i);
+            self.put_item(arities, rows[i] as usize, &rows[i + 1..end]);
+            i = end;
+        }
     }
-    q
-}
 
-// Puts the tree part with its length at p: the place behind it.
-pub(crate) fn put_trees(arities: &[u8], rows: &[u16], book: &mut [u8], p: usize) -> usize
-    requires { (p ≤ most_book_bytes) × (length rows.now ≤ most_book_bytes) }
-    ensures { (result ≡ p + length (tree_part_bytes arities.now rows.now)) × (result ≤ most_book_bytes → book.new ≡ sets book.old p (tree_part_bytes arities.now rows.now)) }
-{
-    let q = put_items(arities, rows, book, p + 2);
-    put_two(book, p, q - (p + 2));
-    q
+    // Puts the tree part behind its length.
+    pub(crate) fn put_trees(&mut self, arities: &[u8], rows: &[u16])
+        requires { (self.old.size ≤ most_book_bytes) × (length rows.now ≤ most_book_bytes) }
+        ensures { PutIfFits (tree_part_bytes arities.now rows.now) self.old self.new }
+    {
+        let p = self.size;
+        self.size += 2;
+        self.put_items(arities, rows);
+        put_two(&mut self.bytes, p, self.size - (p + 2));
+    }
 }

@@ -6,26 +6,34 @@ use native.Mathlib.Omega.{arith}
 use borrow.Author.Rules.{rules}
 use lib.ListN.{length, replicate, length-take, length-replicate}
 use lib.Seq.{sets, length-sets}
-use Rattle.std.proofs.Common.{length-take-le}
+use Rattle.std.proofs.Common.{take, length-take-le}
 use Rattle.limits.specs.Sizes.{most_book_bytes, most_symbols}
 use Rattle.book.proofs.BookWays.{SymbolsKept, symbols-kept}
+use Rattle.writer.specs.declared.made.Made.{Made}
 use Rattle.writer.specs.Rows.{Rows}
 use Rattle.writer.specs.Layout.{front_bytes}
 use Rattle.writer.proofs.Making.{front_read, arities-read, front_large, front-refused, front-judged}
 use Rattle.writer.proofs.made.made_of.Goals as goal
 use Rattle.writer.proofs.made.made_of.Goals.{In-Ok}
 
--- the front stands in the bytes that were made
-room : (symbols bytes : List ℕ) → bytes ≡ sets (replicate most_book_bytes 0) 0 (front_bytes symbols) → 3 + length symbols ≤ most_book_bytes → 3 + length symbols ≤ length bytes
-room symbols bytes put fits =
-    omega (arith, ap length put, length-sets (replicate most_book_bytes 0) 0 (front_bytes symbols), length-replicate {A = ℕ} most_book_bytes 0)
+-- the front was made
+module _ (symbols : List ℕ) (made : Made) (is : (made.size ≡ 3 + length symbols) × (made.bytes ≡ sets (replicate most_book_bytes 0) 0 (front_bytes symbols)))
+    (fits : 3 + length symbols ≤ most_book_bytes)
+  where
+    there : take made.size made.bytes ≡ front_bytes symbols
+    there = rw is.0 (front_read symbols made.bytes fits is.1)
+
+    whole : length (take made.size made.bytes) ≡ made.size
+    whole =
+        let long = length-sets (replicate most_book_bytes 0) 0 (front_bytes symbols) in
+        length-take-le made.size made.bytes (omega (arith, ap length is.1, long, length-replicate {A = ℕ} most_book_bytes 0))
 
 -- the symbols were read
 kept : (c : In-Ok)
     → let part = c.in-Ok.part in
     SymbolsKept (front_bytes c.args.symbols.now) part.count part.next part.at part.ranks part.chain.next part.chain.first
 kept c =
-    let told = rw (front_read c.args.symbols.now c.put_front.new.book c.if-symbols-gt-BOOK.false c.put_front.ensures) at c.in-Ok.ensures in
+    let told = rw (there c.args.symbols.now c.front_of-made.result c.front_of-made.ensures c.if-symbols-gt-BOOK.false) at c.in-Ok.ensures in
     symbols-kept (front_bytes c.args.symbols.now) _ _ _ _ told.reading told.arrays.0 told.arrays.1 told.arrays.2 told.arrays.3
 
 pub returns-then-symbols-gt-BOOK : goal.returns-then-symbols-gt-BOOK
@@ -34,13 +42,13 @@ returns-then-symbols-gt-BOOK c =
     front_large (record { symbols = a.symbols.now; trees = a.trees.now }) c.count_rows.ensures.0 c.count_rows-2.ensures.0 c.if-symbols-gt-BOOK.true
 
 pub slice_bounds-read_symbol_part-end : goal.slice_bounds-read_symbol_part-end
-slice_bounds-read_symbol_part-end c = sym (length-take-le _ _ (room c.args.symbols.now c.put_front.new.book c.put_front.ensures c.if-symbols-gt-BOOK.false))
+slice_bounds-read_symbol_part-end c = sym (whole c.args.symbols.now c.front_of-made.result c.front_of-made.ensures c.if-symbols-gt-BOOK.false)
 
 pub slice_bounds-rows_read-end : goal.slice_bounds-rows_read-end
-slice_bounds-rows_read-end c = sym (length-take-le _ _ (room c.args.symbols.now c.put_front.new.book c.put_front.ensures c.if-symbols-gt-BOOK.false))
+slice_bounds-rows_read-end c = sym (whole c.args.symbols.now c.front_of-made.result c.front_of-made.ensures c.if-symbols-gt-BOOK.false)
 
 pub slice_bounds-arities_of-end : goal.slice_bounds-arities_of-end
-slice_bounds-arities_of-end c = sym (length-take-le _ _ (room c.args.symbols.now c.put_front.new.book c.put_front.ensures c.if-symbols-gt-BOOK.false))
+slice_bounds-arities_of-end c = sym (whole c.args.symbols.now c.front_of-made.result c.front_of-made.ensures c.if-symbols-gt-BOOK.false)
 
 pub shared_ref_as_front-at : goal.shared_ref_as_front-at
 shared_ref_as_front-at c =
@@ -53,7 +61,7 @@ arities_of-arities-requires c =
     simp length-take (omega (arith, is.few, is.long))
 
 pub with_trees-requires : goal.with_trees-requires
-with_trees-requires c = c.if-symbols-gt-BOOK.false
+with_trees-requires c = omega (arith, c.front_of-made.ensures.0, c.if-symbols-gt-BOOK.false)
 
 pub slice_bounds-with_trees-end : goal.slice_bounds-with_trees-end
 slice_bounds-with_trees-end c =
@@ -75,7 +83,7 @@ slice_bounds-at-end c =
 pub returns-in-Err : goal.returns-in-Err
 returns-in-Err c =
     let a = c.args in
-    let front = front_read a.symbols.now c.put_front.new.book c.if-symbols-gt-BOOK.false c.put_front.ensures in
+    let front = there a.symbols.now c.front_of-made.result c.front_of-made.ensures c.if-symbols-gt-BOOK.false in
     front-refused (record { symbols = a.symbols.now; trees = a.trees.now }) c.count_rows.ensures.0 c.count_rows-2.ensures.0 c.if-symbols-gt-BOOK.false
     (rw front at c.in-Err.ensures.reading) (rw front at c.rows_read.ensures.0)
 
@@ -83,7 +91,7 @@ pub returns-in-Ok : goal.returns-in-Ok
 returns-in-Ok c =
     let a = c.args in
     let rows : Rows = record { symbols = a.symbols.now; trees = a.trees.now } in
-    let front = front_read a.symbols.now c.put_front.new.book c.if-symbols-gt-BOOK.false c.put_front.ensures in
+    let front = there a.symbols.now c.front_of-made.result c.front_of-made.ensures c.if-symbols-gt-BOOK.false in
     let is = kept (goal.at.returns-in-Ok c).In-Ok in
     let arities = arities-read (front_bytes a.symbols.now) c.in-Ok.part.at is.means is.many (rw front at c.arities_of-arities.ensures) in
     front-judged rows c.count_rows.ensures.0 c.count_rows-2.ensures.0 c.if-symbols-gt-BOOK.false c.with_trees.result is.part (rw (front, arities) at c.with_trees.ensures)

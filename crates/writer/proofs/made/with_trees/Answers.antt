@@ -16,45 +16,45 @@ returns-then-trees-gt-BOOK c =
     let a = c.args in
     let trees = tree_part_bytes a.arities.now a.trees.now in
     let large = tree-part-long a.arities.now a.trees.now in
-    too_large_lem a.count (take a.front a.bytes ++ trees) (omega (arith, whole_long a.bytes a.front trees (omega arith)))
+    too_large_lem a.count (take a.made.size a.made.bytes ++ trees) (omega (arith, whole_long a.made.bytes a.made.size trees (omega arith)))
 
 pub returns-then-size-gt-BOOK : goal.returns-then-size-gt-BOOK
 returns-then-size-gt-BOOK c =
     let a = c.args in
     let trees = tree_part_bytes a.arities.now a.trees.now in
-    too_large_lem a.count (take a.front a.bytes ++ trees) (omega (arith, c.put_trees-size.ensures.0, whole_long a.bytes a.front trees (omega arith)))
+    too_large_lem a.count (take a.made.size a.made.bytes ++ trees) (omega (arith, c.put_trees.ensures.size, whole_long a.made.bytes a.made.size trees (omega arith)))
 
 pub slice_bounds-read_book-end : goal.slice_bounds-read_book-end
 slice_bounds-read_book-end c =
     let a = c.args in
-    let put = ap length (c.put_trees-size.ensures.1 (omega arith)) in
-    let long = length-sets a.bytes a.front (tree_part_bytes a.arities.now a.trees.now) in
-    sym (length-take-le c.put_trees-size.result c.put_trees-size.new.book (omega (arith, put, long)))
+    let put = ap length (c.put_trees.ensures.bytes (omega arith)) in
+    let long = length-sets a.made.bytes a.made.size (tree_part_bytes a.arities.now a.trees.now) in
+    sym (length-take-le c.put_trees.new.self.size c.put_trees.new.self.bytes (omega (arith, put, long)))
 
 pub slice_bounds-rows_read-end : goal.slice_bounds-rows_read-end
 slice_bounds-rows_read-end c =
     let a = c.args in
-    let put = ap length (c.put_trees-size.ensures.1 (omega arith)) in
-    let long = length-sets a.bytes a.front (tree_part_bytes a.arities.now a.trees.now) in
-    sym (length-take-le c.put_trees-size.result c.put_trees-size.new.book (omega (arith, put, long)))
+    let put = ap length (c.put_trees.ensures.bytes (omega arith)) in
+    let long = length-sets a.made.bytes a.made.size (tree_part_bytes a.arities.now a.trees.now) in
+    sym (length-take-le c.put_trees.new.self.size c.put_trees.new.self.bytes (omega (arith, put, long)))
 
 pub returns-in-Err : goal.returns-in-Err
 returns-in-Err c =
     let a = c.args in
     let trees = tree_part_bytes a.arities.now a.trees.now in
-    let put = c.put_trees-size.ensures in
-    let whole = take a.front a.bytes ++ trees in
-    let small : length whole ≤ 32768 = omega (arith, put.0, whole_long a.bytes a.front trees (omega arith)) in
-    let there = whole-put a.bytes a.front trees (omega arith) c.put_trees-size.new.book c.put_trees-size.result put.0 (omega arith) (put.1 (omega arith)) in
+    let put = c.put_trees.ensures in
+    let whole = take a.made.size a.made.bytes ++ trees in
+    let small : length whole ≤ 32768 = omega (arith, put.size, whole_long a.made.bytes a.made.size trees (omega arith)) in
+    let there = whole-put a.made.bytes a.made.size trees (omega arith) c.put_trees.new.self.bytes c.put_trees.new.self.size put.size (omega arith) (put.bytes (omega arith)) in
     at_fault a.count whole small (rw there at c.in-Err.ensures.reading) (rw there at c.rows_read.ensures.0)
 
 pub returns-in-Ok : goal.returns-in-Ok
 returns-in-Ok c =
     let a = c.args in
     let trees = tree_part_bytes a.arities.now a.trees.now in
-    let put = c.put_trees-size.ensures in
-    let whole = take a.front a.bytes ++ trees in
-    let small : length whole ≤ 32768 = omega (arith, put.0, whole_long a.bytes a.front trees (omega arith)) in
-    let there = whole-put a.bytes a.front trees (omega arith) c.put_trees-size.new.book c.put_trees-size.result put.0 (omega arith) (put.1 (omega arith)) in
+    let put = c.put_trees.ensures in
+    let whole = take a.made.size a.made.bytes ++ trees in
+    let small : length whole ≤ 32768 = omega (arith, put.size, whole_long a.made.bytes a.made.size trees (omega arith)) in
+    let there = whole-put a.made.bytes a.made.size trees (omega arith) c.put_trees.new.self.bytes c.put_trees.new.self.size put.size (omega arith) (put.bytes (omega arith)) in
     let reading = rw there at c.in-Ok.ensures.reading in
-    (ap made there ∙ admitted a.count whole small reading, omega (arith, ap length (put.1 (omega arith)), length-sets a.bytes a.front trees))
+    (ap made there ∙ admitted a.count whole small reading, omega (arith, ap length (put.bytes (omega arith)), length-sets a.made.bytes a.made.size trees))

@@ -9,7 +9,7 @@ use Rattle.writer.specs.Layout.{item_bytes, items_bytes}
 use Rattle.writer.proofs.Putting.{left-length, left-put}
 use Rattle.writer.proofs.Splitting.{row}
 use Rattle.writer.proofs.Leftover.{items-one, items-none}
-use Rattle.writer.proofs.trees.put_items.Goals as goal
+use Rattle.writer.proofs.made.Made.put_items.Goals as goal
 
 pub loop-i-init : goal.loop-i-init
 loop-i-init c = (omega arith, omega arith, refl, λ fits. refl)
@@ -25,11 +25,11 @@ loop-i-preserved c =
     let then = items_bytes arities (rows_in (drop end rows)) in
     let split : items_bytes arities (rows_in (drop l.i rows)) ≡ now ++ then =
     items-one arities rows l.i end c.behind_row-end.ensures.0 (omega arith) in
-    let put = c.put_item-q.ensures in (
+    let put = c.put_item.ensures in (
       omega arith,
-      omega (arith, put.1, length-take (end - (l.i + 1)) (drop (l.i + 1) rows)),
-      omega (arith, put.0, left-length _ now then split),
-      λ fits. left-put _ now then split l.book l.q _ _ (put.2 fits) put.0 ∙ l.invariant.3 (omega (arith, put.0)),
+      omega (arith, put.near, length-take (end - (l.i + 1)) (drop (l.i + 1) rows)),
+      omega (arith, put.put.size, left-length _ now then split),
+      λ fits. left-put _ now then split l.self.bytes l.self.size _ _ (put.put.bytes fits) put.put.size ∙ l.invariant.3 (omega (arith, put.put.size)),
     )
 
 pub returns : goal.returns
@@ -37,4 +37,4 @@ returns c =
     let a = c.args in
     let l = c.loop-i in
     let none = items-none a.arities.now a.rows.now l.i c.loop-i-test.false in
-    (omega (arith, ap length none), λ fits. rw none at (l.invariant.3 fits))
+    record { size = omega (arith, ap length none); bytes = λ fits. rw none at (l.invariant.3 fits) }

@@ -6,16 +6,17 @@ use lib.ListN.{length}
 use Rattle.writer.specs.Rows.{rows_in}
 use Rattle.writer.specs.Layout.{items_bytes, part_bytes, tree_part_bytes}
 use Rattle.writer.proofs.Putting.{front-put, front_length}
-use Rattle.writer.proofs.trees.put_trees.Goals as goal
+use Rattle.writer.proofs.made.Made.put_trees.Goals as goal
 
 pub returns : goal.returns
 unfolding tree_part_bytes part_bytes
 returns c =
     let a = c.args in
+    let was = a.self.now in
     let bytes = items_bytes a.arities.now (rows_in a.rows.now) in
-    let q = c.put_items-q.result in
-    let put = c.put_items-q.ensures in
-    let said : q - (a.p + 2) ≡ length bytes = omega (arith, put.0) in (
-      omega (arith, put.0, front_length (length bytes) bytes),
-      λ fits. front-put a.book.now a.p (length bytes) bytes _ _ (put.1 fits) (rw said at (c.put_two.ensures (omega (arith, put.0)))),
-    )
+    let put = c.put_items.ensures in
+    let said : c.put_items.new.self.size - (was.size + 2) ≡ length bytes = omega (arith, put.size) in
+    record {
+      size = omega (arith, put.size, front_length (length bytes) bytes);
+      bytes = λ fits. front-put was.bytes was.size (length bytes) bytes _ _ (put.bytes fits) (rw said at (c.put_two.ensures (omega (arith, put.size))));
+    }
