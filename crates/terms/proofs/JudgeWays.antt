@@ -11,7 +11,7 @@ use Rattle.std.specs.Prelude.{Some, None}
 use Rattle.tagged.specs.Lines.{Name, Line, heading, broader, narrower, other, newline, is_name, same, bt, nt, line_of, lines_from, lines_of}
 use Rattle.tagged.specs.Listing.{headings_of}
 use Rattle.terms.specs.Places.{run_of, end_of}
-use Rattle.terms.specs.InCode.{line_by}
+use Rattle.terms.specs.InCode.{line_by, kind_told}
 use Rattle.terms.specs.Judging.{kind_of, worth, good_lines, FormsAs, next_heading, name_at, line_at}
 use Rattle.terms.specs.declared.lines.Form.{Form}
 use Rattle.terms.specs.declared.lines.Form.TheVariants.{Heading, Broader, Narrower, Other}
@@ -48,6 +48,25 @@ module _ (form : Form) (bs : List ℕ) (is : line_by form bs ≡ line_of bs) whe
 
   pub kind_other : form ≡ Other → 0 ≡ kind_of (line_of bs)
   kind_other e = rw (← is, e) refl
+
+pub kind-told : (form : Form) (bs : List ℕ) → line_by form bs ≡ line_of bs → kind_told form ≡ kind_of (line_of bs)
+kind-told Heading bs is = kind_heading Heading bs is refl
+kind-told Broader bs is = kind_broader Broader bs is refl
+kind-told Narrower bs is = kind_narrower Narrower bs is refl
+kind-told Other bs is = kind_other Other bs is refl
+
+-- no heading's form, no heading's kind
+pub told-not-1 : (form : Form) {kind : ℕ} → kind_told form ≡ kind → (form ≡ Heading → ⊥) → kind ≡ 1 → ⊥
+told-not-1 Heading told not is = not refl
+told-not-1 Broader told not is = absurd (omega arith)
+told-not-1 Narrower told not is = absurd (omega arith)
+told-not-1 Other told not is = absurd (omega arith)
+
+pub told-related : (form : Form) {kind : ℕ} → kind_told form ≡ kind → (form ≡ Heading → ⊥) → (form ≡ Other → ⊥) → 2 ≤ kind
+told-related Heading told not never = absurd (not refl)
+told-related Broader told not never = omega arith
+told-related Narrower told not never = omega arith
+told-related Other told not never = absurd (never refl)
 
 -- by its bytes
 pub data Formed (bs : List ℕ) : Type 0 where

@@ -10,3 +10,10 @@ line_by Heading bs = heading bs
 line_by Broader bs = broader (drop 5 bs)
 line_by Narrower bs = narrower (drop 5 bs)
 line_by Other bs = other
+
+-- the number of a form, as a line's kind has it
+abbrev pub kind_told : Form → ℕ
+kind_told Heading = 1
+kind_told Broader = 2
+kind_told Narrower = 3
+kind_told Other = 0

@@ -1,9 +1,10 @@
 // Whether a listing is good: 40 and 41 line by line, then 42.
-ghost use Rattle.std.specs.Prelude.{true, ◌≡◌, [], ℕ, ◌-◌, ◌≤◌, ◌<◌, length, take, get_or};
+ghost use Rattle.std.specs.Prelude.{true, false, ◌+◌, ◌≡◌, [], ℕ, ◌-◌, ◌≤◌, ◌<◌, length, take, get_or};
 ghost use Rattle.tagged.specs.Lines.{lines_of};
 ghost use Rattle.tagged.specs.Listing.{broader_in};
 ghost use Rattle.terms.specs.TermRows.{JudgedAs};
 ghost use Rattle.terms.specs.Places.{bytes_of};
+ghost use Rattle.terms.specs.InCode.{kind_told};
 ghost use Rattle.terms.specs.Blocks.{hash_of, table_size, name_of, Inside, Chained, Sized, Rows, Cleared, Table, Sought, Entered};
 ghost use Rattle.terms.specs.Blocks.{Begins, FilledAs, KnownBy, KnownFirst, until_told};
 ghost use Rattle.terms.specs.Judging.{kind_of, worth, FormsAs, line_told, twice_from, name_at, line_at};
@@ -20,19 +21,12 @@ struct Forms {
     headings: Option<usize>,
 }
 
-// What the line at `at` is: 1 a heading's own, 2 a BT, 3 an NT, 0 none of these.
-fn kind_at(s: &[u8], at: usize) -> usize
+// What the line at `at` is.
+fn form_at(s: &[u8], at: usize) -> Form
     requires { at ≤ length s.now }
-    ensures { result ≡ kind_of (line_at s.now at) }
+    ensures { kind_told result ≡ kind_of (line_at s.now at) }
 {
-    let to = line_end(s, at);
-    let f = form_of(s, at, to);
-    match f {
-        Form::Heading => 1,
-        Form::Broader => 2,
-        Form::Narrower => 3,
-        Form::Other => 0,
-    }
+    form_of(s, at, line_end(s, at))
 }
 
 // Behind so many headings: 0 a line not of this form, 1 a BT or NT, 2 a heading.
@@ -40,17 +34,11 @@ fn worth_at(s: &[u8], at: usize, headings: usize) -> usize
     requires { at ≤ length s.now }
     ensures { result ≡ worth headings (line_at s.now at) }
 {
-    let kind = kind_at(s, at);
-    if kind == 1 {
-        return 2;
+    match form_at(s, at) {
+        Form::Heading => 2,
+        Form::Other => 0,
+        Form::Broader | Form::Narrower => { if headings == 0 { 0 } else { 1 } }
     }
-    if kind == 0 {
-        return 0;
-    }
-    if headings == 0 {
-        return 0;
-    }
-    1
 }
 
 // "40 line not of this form", for all lines.
@@ -175,10 +163,9 @@ fn enter(
     ensures { Entered result s.now at count place.old before.old last.old
         place.new before.new last.new }
 {
-    let kind = kind_at(s, at);
-    if kind != 1 {
+    let Form::Heading = form_at(s, at) else {
         return Entry::NoHeading;
-    }
+    };
     let to = line_end(s, at);
     let h = hash_of(s, at, to);
     let from = last[h];
@@ -244,10 +231,9 @@ fn known_at(
     requires inside { at ≤ length s.now }
     ensures { KnownBy result s.now place.now at }
 {
-    let kind = kind_at(s, at);
-    if kind != 1 {
+    let Form::Heading = form_at(s, at) else {
         return false;
-    }
+    };
     let to = line_end(s, at);
     let h = hash_of(s, at, to);
     let from = last[h];
@@ -322,6 +308,16 @@ fn first_twice(s: &[u8], lines: usize) -> Option<usize>
     best
 }
 
+// A BT and an NT.
+fn are_opposite(a: Form, b: Form) -> bool
+    ensures { (result ≡ true → kind_told a + kind_told b ≡ 5) × (result ≡ false → kind_told a + kind_told b ≡ 5 → ⊥) }
+{
+    matches!(
+        (a, b),
+        (Form::Broader, Form::Narrower) | (Form::Narrower, Form::Broader)
+    )
+}
+
 // The line at q, under the heading at g, is the mirror of the one at p, under the heading at h.
 fn is_mirror(s: &[u8], h: usize, p: usize, g: usize, q: usize) -> bool
     requires { (h ≤ length s.now) × (p ≤ length s.now) × (g ≤ length s.now) × (q ≤ length s.now) }
@@ -331,9 +327,7 @@ fn is_mirror(s: &[u8], h: usize, p: usize, g: usize, q: usize) -> bool
     let q_end = line_end(s, q);
     let h_end = line_end(s, h);
     if same(s, q + 5, q_end, h, h_end) {
-        let k = kind_at(s, p);
-        let m = kind_at(s, q);
-        if k + m != 5 {
+        if !are_opposite(form_at(s, p), form_at(s, q)) {
             return false;
         }
         let p_end = line_end(s, p);
@@ -354,11 +348,10 @@ fn next_heading(s: &[u8], g: usize, at: usize) -> usize
             return g;
         }
     }
-    let kind = kind_at(s, at);
-    if kind == 1 {
-        return at;
+    match form_at(s, at) {
+        Form::Heading => at,
+        _ => g,
     }
-    g
 }
 
 // The line at p, under the heading at h, has its mirror somewhere.
@@ -650,8 +643,7 @@ fn lacks_mirror(
     requires mirrored { Met s.now place.now head.now met.now }
     ensures { result ≡ wants (lines_of s.now) (name_at s.now h) (line_at s.now p) }
 {
-    let kind = kind_at(s, p);
-    if kind < 2 {
+    if let Form::Heading | Form::Other = form_at(s, p) {
         return false;
     }
     if is_met(h, p, k, place, head, met) {

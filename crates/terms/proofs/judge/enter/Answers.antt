@@ -1,14 +1,9 @@
 -- `enter` meets its contract.
-use mathlib.Core.Path.{sym, ◌∙◌}
+use mathlib.Core.Path.{sym}
 use native.Mathlib.Omega.{arith}
 use Rattle.terms.proofs.JudgeWays.{end-within}
-use Rattle.terms.proofs.TwiceChains.{entered_none, asked, entered_given, entered_new}
+use Rattle.terms.proofs.TwiceChains.{asked, entered_given, entered_new}
 use Rattle.terms.proofs.judge.enter.Goals as goal
-
-pub returns-then-kind-ne1 : goal.returns-then-kind-ne1
-returns-then-kind-ne1 c =
-    let a = c.args in
-    entered_none a.s.now a.at a.count a.place.now a.before.now a.last.now (λ e. c.if-kind-ne1.true (c.kind_at-kind.ensures ∙ e))
 
 pub hash_of-h-requires : goal.hash_of-h-requires
 hash_of-h-requires c =
@@ -35,7 +30,7 @@ returns-then-in_table c =
     let h = c.hash_of-h in
     let found = c.in_table in
     entered_given s a.place.now a.before.now a.last.now a.count c.requires.table a.at to.result h.result to.ensures h.ensures.0
-    (sym c.kind_at-kind.ensures ∙ c.if-kind-ne1.false) found.result found.ensures c.if-in_table.true
+    (sym c.in-Heading.ensures) found.result found.ensures c.if-in_table.true
 
 pub returns : goal.returns
 returns c =
@@ -45,4 +40,4 @@ returns c =
     let h = c.hash_of-h in
     let found = c.in_table in
     entered_new s a.place.now a.before.now a.last.now a.count c.requires.table a.at to.result h.result to.ensures h.ensures.0
-    (sym c.kind_at-kind.ensures ∙ c.if-kind-ne1.false) found.result found.ensures c.if-in_table.false
+    (sym c.in-Heading.ensures) found.result found.ensures c.if-in_table.false

@@ -1,10 +1,9 @@
 -- `is_mirror` meets its contract.
 use mathlib.Core.Path.{◌≡◌, sym, ◌∙◌}
-use Prim.Native.Nat.{◌+◌, ◌≤◌}
+use Prim.Native.Nat.{◌+◌}
 use native.Mathlib.Omega.{arith}
-use borrow.Author.Rules.{rules}
 use Rattle.terms.specs.Judging.{kind_of, name_at, line_at}
-use Rattle.terms.proofs.JudgeWays.{kind_small, end-within}
+use Rattle.terms.proofs.JudgeWays.{end-within}
 use Rattle.terms.proofs.MirrorWays.{mirror_not, mirror_there, mirror_other-name}
 use Rattle.terms.proofs.judge.is_mirror.Goals as goal
 
@@ -18,21 +17,12 @@ same-requires c =
     let q-in = end-within s a.q (omega arith) in
     (omega arith, omega arith)
 
-pub overflow_add-k : goal.overflow_add-k
-overflow_add-k c =
-    let a = c.args in
-    let k = c.kind_at-k.ensures in
-    let m = c.kind_at-m.ensures in
-    let small : c.kind_at-k.result + c.kind_at-m.result ≤ 6 = omega (arith, kind_small (line_at a.s.now a.p), kind_small (line_at a.s.now a.q)) in
-    search rules
-
-pub returns-then-k-m-ne5 : goal.returns-then-k-m-ne5
-returns-then-k-m-ne5 c =
+pub returns-then-not-are_opposite : goal.returns-then-not-are_opposite
+returns-then-not-are_opposite c =
     let a = c.args in
     let s = a.s.now in
-    let k = c.kind_at-k.ensures in
-    let m = c.kind_at-m.ensures in
-    mirror_not (name_at s a.h) (name_at s a.g) (line_at s a.p) (line_at s a.q) (λ e. c.if-k-m-ne5.true (omega (arith, e, k, m)))
+    let no = c.are_opposite.ensures.1 c.if-not-are_opposite.true in
+    mirror_not (name_at s a.h) (name_at s a.g) (line_at s a.p) (line_at s a.q) (λ e. no (omega (arith, e, c.form_at.ensures, c.form_at-then-same.ensures)))
 
 pub same-requires-then-same : goal.same-requires-then-same
 same-requires-then-same c =
@@ -52,7 +42,7 @@ returns-then-same c =
     let p-end = c.line_end-p_end.ensures in
     let h-end = c.line_end-h_end.ensures in
     let q-end = c.line_end-q_end.ensures in
-    let five : kind_of (line_at s a.p) + kind_of (line_at s a.q) ≡ 5 = omega (arith, c.kind_at-k.ensures, c.kind_at-m.ensures, c.if-k-m-ne5.false) in
+    let five : kind_of (line_at s a.p) + kind_of (line_at s a.q) ≡ 5 = omega (arith, c.form_at.ensures, c.form_at-then-same.ensures, c.are_opposite.ensures.0 c.if-not-are_opposite.false) in
     let back = rw (q-end, h-end) at (sym c.same.ensures ∙ c.if-same.true) in
     let there = rw (g_end, p-end) at c.same-then-same.ensures in
     there ∙ mirror_there s a.h a.p a.g a.q (omega arith) (omega arith) five back

@@ -1,15 +1,10 @@
 -- `known_at` meets its contract.
-use mathlib.Core.Path.{sym, ◌∙◌}
+use mathlib.Core.Path.{sym}
 use native.Mathlib.Omega.{arith}
 use Rattle.terms.specs.Blocks.{table_size}
 use Rattle.terms.proofs.JudgeWays.{end-within}
-use Rattle.terms.proofs.TwiceChains.{known-not, asked, known_by}
+use Rattle.terms.proofs.TwiceChains.{asked, known_by}
 use Rattle.terms.proofs.judge.known_at.Goals as goal
-
-pub returns-then-kind-ne1 : goal.returns-then-kind-ne1
-returns-then-kind-ne1 c =
-    let a = c.args in
-    known-not a.s.now a.place.now a.at (λ e. c.if-kind-ne1.true (c.kind_at-kind.ensures ∙ e))
 
 pub hash_of-h-requires : goal.hash_of-h-requires
 hash_of-h-requires c =
@@ -35,4 +30,4 @@ returns c =
     let to = c.line_end-to in
     let h = c.hash_of-h in
     known_by s a.place.now a.before.now a.last.now c.requires.table a.at to.result h.result to.ensures h.ensures.0
-    (sym c.kind_at-kind.ensures ∙ c.if-kind-ne1.false) c.in_table.result c.in_table.ensures
+    (sym c.in-Heading.ensures) c.in_table.result c.in_table.ensures

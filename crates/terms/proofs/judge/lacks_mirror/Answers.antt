@@ -1,16 +1,10 @@
 -- `lacks_mirror` meets its contract.
 use mathlib.Core.Path.{sym, ◌∙◌}
-use native.Mathlib.Omega.{arith}
 use Rattle.tagged.specs.Lines.{lines_of}
 use Rattle.terms.specs.Judging.{name_at, line_at}
-use Rattle.terms.proofs.MirrorWays.{wants_no, wants-has, wants-lacks}
+use Rattle.terms.proofs.JudgeWays.{told-related}
+use Rattle.terms.proofs.MirrorWays.{wants-has, wants-lacks}
 use Rattle.terms.proofs.judge.lacks_mirror.Goals as goal
-
-pub returns-then-kind-lt2 : goal.returns-then-kind-lt2
-returns-then-kind-lt2 c =
-    let a = c.args in
-    let s = a.s.now in
-    wants_no (lines_of s) (name_at s a.h) (line_at s a.p) (omega (arith, c.kind_at-kind.ensures, c.if-kind-lt2.true))
 
 pub returns-then-is_met : goal.returns-then-is_met
 returns-then-is_met c =
@@ -29,4 +23,4 @@ pub returns : goal.returns
 returns c =
     let a = c.args in
     let s = a.s.now in
-    wants-lacks (lines_of s) (name_at s a.h) (line_at s a.p) (omega (arith, c.kind_at-kind.ensures, c.if-kind-lt2.false)) (sym c.has_mirror.ensures ∙ c.if-has_mirror.false)
+    wants-lacks (lines_of s) (name_at s a.h) (line_at s a.p) (told-related _ c.form_at.ensures c.in_default.not-Heading c.in_default.not-Other) (sym c.has_mirror.ensures ∙ c.if-has_mirror.false)
