@@ -4,7 +4,7 @@ use mathlib.Core.Path.{◌≡◌, refl, sym, ap, ◌∙◌}
 use mathlib.Core.List.{List, [], ◌∷◌}
 use Prim.Native.Nat.{ℕ, suc, ◌+◌, ◌-◌, ◌≤◌, ◌<◌}
 use native.Mathlib.Omega.{arith}
-use borrow.Author.Tests.{eq-eqb, ne_eqb, lt-ltb, le-ltb}
+use borrow.Author.Tests.{lt-ltb, le-ltb}
 use lib.Dec.{eqb}
 use lib.ListN.{length, get_or, drop, take, length-drop}
 use Rattle.std.specs.Prelude.{Some, None}
@@ -104,34 +104,10 @@ kind_small other = omega arith
 
 -- ---- what a line is worth behind k headings
 
-pub worth_0 : (k : ℕ) (l : Line) → kind_of l ≡ 0 → 0 ≡ worth k l
-worth_0 k (heading x) is = absurd (omega (arith, is))
-worth_0 k (broader x) is = absurd (omega (arith, is))
-worth_0 k (narrower x) is = absurd (omega (arith, is))
-worth_0 k other is = refl
-
-pub worth_1 : (k : ℕ) (l : Line) → kind_of l ≡ 1 → 2 ≡ worth k l
-worth_1 k (heading x) is = refl
-worth_1 k (broader x) is = absurd (omega (arith, is))
-worth_1 k (narrower x) is = absurd (omega (arith, is))
-worth_1 k other is = absurd (omega (arith, is))
-
 abbrev relation_worth : Bool → ℕ
 relation_worth t = elim t [ true ↦ 0 | false ↦ 1 ]
 
 module _ (k : ℕ) where
-  pub worth-none : (l : Line) → (kind_of l ≡ 1 → ⊥) → (kind_of l ≡ 0 → ⊥) → k ≡ 0 → 0 ≡ worth k l
-  worth-none (heading x) not-1 not-0 is = absurd (not-1 refl)
-  worth-none (broader x) not-1 not-0 is = rw (eq-eqb k 0 is, worth) refl
-  worth-none (narrower x) not-1 not-0 is = rw (eq-eqb k 0 is, worth) refl
-  worth-none other not-1 not-0 is = refl
-
-  pub worth-some : (l : Line) → (kind_of l ≡ 1 → ⊥) → (kind_of l ≡ 0 → ⊥) → (k ≡ 0 → ⊥) → 1 ≡ worth k l
-  worth-some (heading x) not-1 not-0 is = absurd (not-1 refl)
-  worth-some (broader x) not-1 not-0 is = rw (ne_eqb k 0 is, worth) refl
-  worth-some (narrower x) not-1 not-0 is = rw (ne_eqb k 0 is, worth) refl
-  worth-some other not-1 not-0 is = absurd (not-0 refl)
-
   worth_bool : (t : Bool) → relation_worth t ≤ 2
   worth_bool true = omega arith
   worth_bool false = omega arith
