@@ -34,7 +34,7 @@ front-put bs was part size same first second =
 module _ (bs ends : List ℕ) (p : ℕ) where
   -- what the code has to give, after the bytes of the spot were put at q
   abbrev pub SpotOf : List ℕ → ℕ → ℕ → ℕ → List ℕ → Type 0
-  SpotOf was q old new is = SpotPut bs ends p was q (record { old = old; new = new }) is
+  SpotOf was q old new is = SpotPut bs ends p (record { size = q; bytes = was }) old (record { size = new; bytes = is })
 
   pub exempt-put : (was : List ℕ) (q : ℕ) {one two : List ℕ} → get_or bs p 0 ≡ 0 → one ≡ set was q 1 → two ≡ set one (q + 1) 3 → SpotOf was q (p + 1) (q + 2) two
   unfolding spot_of behind_of

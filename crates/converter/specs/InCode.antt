@@ -7,24 +7,27 @@ use Rattle.converter.specs.Convert.{Outcome, refusing}
 use Rattle.converter.specs.Scan.{spot_bytes, spot_behind}
 use Rattle.converter.specs.declared.Refusal.{Refusal}
 use Rattle.converter.specs.declared.Refusal.TheVariants.{Unread, NoRoom}
-use Rattle.converter.specs.declared.made.Places.{Places}
 use Rattle.converter.specs.declared.made.Made.{Made}
 
 -- Places of a new book that is made are no further than this, whatever the old bytes are: each item takes at most ten times a book's size.
 abbrev pub furthest : ℕ
 furthest = 68719476736
 
--- what opens at p was put at q, over the bytes that were there
-pub record SpotPut (bs ends : List ℕ) (p : ℕ) (was : List ℕ) (q : ℕ) (to : Places) (is : List ℕ) : Type 0 where
-  pub old : to.old ≡ spot_behind bs ends p
-  pub new : to.new ≡ q + length (spot_bytes bs ends p)
-  pub put : is ≡ sets was q (spot_bytes bs ends p)
+-- what opens at p was put behind the bytes that were there
+pub record SpotPut (bs ends : List ℕ) (p : ℕ) (was : Made) (to : ℕ) (is : Made) : Type 0 where
+  pub old : to ≡ spot_behind bs ends p
+  pub new : is.size ≡ was.size + length (spot_bytes bs ends p)
+  pub put : is.bytes ≡ sets was.bytes was.size (spot_bytes bs ends p)
 
 -- xs were put at q, if they end within a book's size; `to` is the place behind them, no further than `most`
 pub record Put (xs was : List ℕ) (q most to : ℕ) (is : List ℕ) : Type 0 where
   pub behind : to ≡ q + length xs
   pub near : to ≤ most
   pub put : to ≤ most_book_bytes → is ≡ sets was q xs
+
+-- xs were put behind the bytes that were there
+abbrev pub PutBehind : List ℕ → Made → ℕ → Made → Type 0
+PutBehind xs was most is = Put xs was.bytes was.size most is.size is.bytes
 
 -- these are the bytes that were made, if they are not more than a book has
 pub record MadeOf (cs : List ℕ) (made : Made) : Type 0 where

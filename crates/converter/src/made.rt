@@ -1,9 +1,9 @@
 // The new book made from the old one. In an item the trees stand in preorder, so one way through its bytes meets every exempt: behind an exempt stands the
 // next tree, behind a rule too, at the end that the reader noted, and behind a branch's variable its first tree.
-ghost use Rattle.std.specs.Prelude.{◌≡◌, ◌+◌, ◌*◌, ◌<◌, ◌≤◌, length, get_or};
+ghost use Rattle.std.specs.Prelude.{◌≡◌, ◌+◌, ◌*◌, ◌<◌, ◌≤◌, length, get_or, replicate};
 ghost use Rattle.limits.specs.Sizes.{most_book_bytes};
 ghost use Rattle.converter.specs.Scan.{spots, item_to, items, front, scanned};
-ghost use Rattle.converter.specs.InCode.{furthest, SpotPut, Put, MadeOf};
+ghost use Rattle.converter.specs.InCode.{furthest, SpotPut, Put, PutBehind, MadeOf};
 
 use super::put::put_part;
 use limits::Limits;
@@ -15,13 +15,6 @@ use writer::put::{put_byte, put_two};
 pub(crate) struct Old<'a> {
     pub book: &'a [u8],
     pub ends: &'a [u16],
-}
-
-// A place in the old book, and the one in the new book that it has come to.
-#[derive(Clone, Copy)]
-pub struct Places {
-    pub old: usize,
-    pub new: usize,
 }
 
 // A new book: how many bytes it has, and its bytes if they are not more than a book has.
@@ -39,86 +32,85 @@ impl Old<'_> {
         self.ends.get(p).copied().unwrap_or(0) as usize
     }
 
-    // Puts what opens at p, up to the next tree's code: a rule to fail for an exempt, a rule as it stands, a branch's code and variable.
-    fn put_spot(self, p: usize, made: &mut [u8], q: usize) -> Places
-        requires { (length self.book.now ≤ most_book_bytes) × (p ≤ furthest) × (q ≤ 2 * furthest) }
-        ensures { SpotPut self.entry.book.now self.entry.ends.now p made.old q result made.new }
+    // Puts what opens at p, up to the next tree's code: a rule to fail for an exempt, a rule as it stands, a branch's code and variable. The answer is the place
+    // of that code.
+    fn put_spot(self, p: usize, made: &mut Made) -> usize
+        requires { (length self.book.now ≤ most_book_bytes) × (p ≤ furthest) × (made.old.size ≤ 2 * furthest) }
+        ensures { SpotPut self.entry.book.now self.entry.ends.now p made.old result made.new }
     {
         match byte(self.book, p) {
             0 => {
-                put_byte(made, q, 1);
-                put_byte(made, q + 1, 3);
-                Places {
-                    old: p + 1,
-                    new: q + 2,
-                }
+                put_byte(&mut made.bytes, made.size, 1);
+                put_byte(&mut made.bytes, made.size + 1, 3);
+                made.size += 2;
+                p + 1
             }
             1 => {
                 let rule = part_of(self.book, p + 1, self.end_of(p));
-                put_byte(made, q, 1);
-                put_part(rule, made, q + 1);
-                Places {
-                    old: p + 1 + rule.len(),
-                    new: q + 1 + rule.len(),
-                }
+                put_byte(&mut made.bytes, made.size, 1);
+                made.size += 1;
+                put_part(rule, &mut made.bytes, made.size);
+                made.size += rule.len();
+                p + 1 + rule.len()
             }
             _ => {
-                put_byte(made, q, 2);
-                put_byte(made, q + 1, byte(self.book, p + 1));
-                Places {
-                    old: p + 2,
-                    new: q + 2,
-                }
+                put_byte(&mut made.bytes, made.size, 2);
+                put_byte(&mut made.bytes, made.size + 1, byte(self.book, p + 1));
+                made.size += 2;
+                p + 2
             }
         }
     }
 
-    // Puts the trees from p to e: the place behind them in the new book.
-    fn put_spots(self, e: usize, p: usize, made: &mut [u8], q: usize) -> usize
-        requires { (length self.book.now ≤ most_book_bytes) × (p ≤ e) × (e ≤ 4 * most_book_bytes) × (q ≤ furthest + 2) }
-        ensures { Put (spots self.entry.book.now self.entry.ends.now e p) made.old q (q + 9 * most_book_bytes) result made.new }
+    // Puts the trees from p to e.
+    fn put_spots(self, e: usize, p: usize, made: &mut Made)
+        requires { (length self.book.now ≤ most_book_bytes) × (p ≤ e) × (e ≤ 4 * most_book_bytes) × (made.old.size ≤ furthest + 2) }
+        ensures { PutBehind (spots self.entry.book.now self.entry.ends.now e p) made.old (made.old.size + 9 * most_book_bytes) made.new }
     {
-        let mut at = Places { old: p, new: q };
-        while at.old < e {
-            at = self.put_spot(at.old, made, at.new);
+        let mut at = p;
+        while at < e {
+            at = self.put_spot(at, made);
         }
-        at.new
     }
 
-    // Puts the tree whose length stands at p, with its own length: the place behind it in the new book.
-    fn put_item(self, e: usize, p: usize, made: &mut [u8], q: usize) -> usize
-        requires { (length self.book.now ≤ most_book_bytes) × (p + 2 ≤ e) × (e ≤ 4 * most_book_bytes) × (q ≤ furthest) }
-        ensures { Put (item_to self.entry.book.now self.entry.ends.now e p) made.old q (q + 10 * most_book_bytes) result made.new }
+    // Puts the tree whose length stands at p, behind its own length.
+    fn put_item(self, e: usize, p: usize, made: &mut Made)
+        requires { (length self.book.now ≤ most_book_bytes) × (p + 2 ≤ e) × (e ≤ 4 * most_book_bytes) × (made.old.size ≤ furthest) }
+        ensures { PutBehind (item_to self.entry.book.now self.entry.ends.now e p) made.old (made.old.size + 10 * most_book_bytes) made.new }
     {
-        let r = self.put_spots(e, p + 2, made, q + 2);
-        put_two(made, q, r - (q + 2));
-        r
+        let q = made.size;
+        made.size += 2;
+        self.put_spots(e, p + 2, made);
+        let length = made.size - (q + 2);
+        put_two(&mut made.bytes, q, length);
     }
 
-    // Puts the trees whose lengths stand from p on: the place behind them in the new book.
-    fn put_items(self, p: usize, made: &mut [u8], q: usize) -> usize
-        requires { (length self.book.now ≤ most_book_bytes) × (p ≤ 4 * most_book_bytes) × (q ≤ 2 * most_book_bytes) }
-        ensures { Put (items self.entry.book.now self.entry.ends.now p) made.old q furthest result made.new }
+    // Puts the trees whose lengths stand from p on.
+    fn put_items(self, p: usize, made: &mut Made)
+        requires { (length self.book.now ≤ most_book_bytes) × (p ≤ 4 * most_book_bytes) × (made.old.size ≤ 2 * most_book_bytes) }
+        ensures { PutBehind (items self.entry.book.now self.entry.ends.now p) made.old furthest made.new }
     {
-        let mut old = p;
-        let mut new = q;
-        while old < self.book.len() {
-            let e = old + 2 + number(self.book, old);
-            new = self.put_item(e, old, made, new);
-            old = e;
+        let mut at = p;
+        while at < self.book.len() {
+            let e = at + 2 + number(self.book, at);
+            self.put_item(e, at, made);
+            at = e;
         }
-        new
     }
 
-    // Puts the version byte, and the symbol part as it stands: the place behind it.
-    fn put_front(self, made: &mut [u8]) -> usize
+    // The version byte, and the symbol part as it stands.
+    fn front(self) -> Made
         requires { length self.book.now ≤ most_book_bytes }
-        ensures { Put (front self.entry.book.now) made.old 0 (2 + most_book_bytes) result made.new }
+        ensures { Put (front self.entry.book.now) (replicate most_book_bytes 0) 0 (2 + most_book_bytes) result.size result.bytes }
     {
         let part = part_of(self.book, 1, 3 + number(self.book, 1));
-        put_byte(made, 0, 2);
-        put_part(part, made, 1);
-        1 + part.len()
+        let mut bytes = [0u8; Limits::BOOK];
+        put_byte(&mut bytes, 0, 2);
+        put_part(part, &mut bytes, 1);
+        Made {
+            size: 1 + part.len(),
+            bytes,
+        }
     }
 
     // The new book of an admitted one, with the ends that the reader noted.
@@ -126,10 +118,12 @@ impl Old<'_> {
         requires { length self.book.now ≤ most_book_bytes }
         ensures { MadeOf (scanned self.entry.book.now self.entry.ends.now) result }
     {
-        let mut bytes = [0u8; Limits::BOOK];
-        let q = self.put_front(&mut bytes);
-        let size = self.put_items(3 + number(self.book, 1) + 2, &mut bytes, q + 2);
-        put_two(&mut bytes, q, size - (q + 2));
-        Made { size, bytes }
+        let mut made = self.front();
+        let q = made.size;
+        made.size += 2;
+        self.put_items(3 + number(self.book, 1) + 2, &mut made);
+        let trees = made.size - (q + 2);
+        put_two(&mut made.bytes, q, trees);
+        made
     }
 }

@@ -9,7 +9,7 @@ use Rattle.converter.proofs.made.Old.converted.Goals as goal
 pub returns : goal.returns
 returns c =
     let a = c.args in
-    let then = rw c.number.ensures.0 at c.put_items-size.ensures in
+    let then = rw c.number.ensures.0 at c.put_items.ensures in
     let zeros = length-replicate {A = ℕ} most_book_bytes 0 in
-    let first = c.put_front-q.ensures in
+    let first = c.front-made.ensures in
     all_made a.self.book.now a.self.ends.now (replicate most_book_bytes 0) _ zeros first (counted-put _ then c.put_two.ensures)

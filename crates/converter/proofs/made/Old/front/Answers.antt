@@ -1,8 +1,10 @@
--- `put_front` meets its contract: the version byte 2, and the symbol part as it stands.
+-- `front` meets its contract: the version byte 2, and the symbol part as it stands.
 use Prim.Native.Nat.{◌+◌}
 use native.Mathlib.Omega.{arith}
+use lib.ListN.{replicate}
+use Rattle.limits.specs.Sizes.{most_book_bytes}
 use Rattle.converter.proofs.ScanWays.{part-short, front-put}
-use Rattle.converter.proofs.made.Old.put_front.Goals as goal
+use Rattle.converter.proofs.made.Old.front.Goals as goal
 
 pub put_part-requires : goal.put_part-requires
 put_part-requires c =
@@ -14,4 +16,4 @@ pub returns : goal.returns
 returns c =
     let a = c.args in
     let part = rw c.number.ensures.0 at c.part_of-part.ensures in
-    front-put a.self.book.now a.made.now _ (omega arith) part c.put_byte.ensures c.put_part.ensures
+    front-put a.self.book.now (replicate most_book_bytes 0) _ (omega arith) part c.put_byte.ensures c.put_part.ensures
