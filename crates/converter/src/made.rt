@@ -32,8 +32,7 @@ impl Old<'_> {
         self.ends.get(p).copied().unwrap_or(0) as usize
     }
 
-    // Puts what opens at p, up to the next tree's code: a rule to fail for an exempt, a rule as it stands, a branch's code and variable. The answer is the place
-    // of that code.
+    // Puts what opens at p, up to the next tree's code, and tells its place: a rule to fail for an exempt, a rule as it stands, a branch's code and variable.
     fn put_spot(self, p: usize, made: &mut Made) -> usize
         requires { (length self.book.now ≤ most_book_bytes) × (p ≤ furthest) × (made.old.size ≤ 2 * furthest) }
         ensures { SpotPut self.entry.book.now self.entry.ends.now p made.old result made.new }

@@ -1,5 +1,5 @@
 -- What the writer's code holds and answers, in the words of the definitions.
-use Rattle.std.specs.Prelude.{List, ◌≡◌, ℕ, ◌+◌, ◌≤◌, length, take, Result, Ok, Err}
+use Rattle.std.specs.Prelude.{List, ◌≡◌, ℕ, ◌+◌, ◌≤◌, length, take, Result, Ok, Err, IfOk}
 use Rattle.std.proofs.lemmas.List.Edits.{sets}
 use Rattle.limits.specs.Sizes.{most_book_bytes}
 use Rattle.writer.specs.Layout as Layout
@@ -45,6 +45,10 @@ row_of NoRoom = 0
 abbrev pub writing_by : Result Made Refusal → Writing
 writing_by (Ok m) = made (take m.size m.bytes)
 writing_by (Err r) = refused (number_of r) (row_of r)
+
+-- the bytes of a book that was made lie in their array
+abbrev pub Within : Result Made Refusal → Type 0
+Within r = IfOk r (λ (m : Made). m.size ≤ length m.bytes)
 
 -- what is handed back: 0, no row and how many bytes were written, or the refusal's number, its row and no bytes
 abbrev pub result_of : Result ℕ Refusal → Write.Result

@@ -1,11 +1,11 @@
 // The bytes of a book made from its rows, and judged as any book is.
-ghost use Rattle.std.specs.Prelude.{◌++◌, map, ◌≡◌, ◌+◌, ◌≤◌, length, take, replicate, IfOk};
+ghost use Rattle.std.specs.Prelude.{◌++◌, map, ◌≡◌, ◌+◌, ◌≤◌, length, take, replicate};
 ghost use Rattle.std.proofs.lemmas.List.Edits.{sets};
 ghost use Rattle.limits.specs.Sizes.{most_book_bytes, most_symbols};
 ghost use Rattle.symbols.specs.Table.{symbols_in, in_array};
 ghost use Rattle.writer.specs.Layout.{byte_of, arities_of, front_bytes, tree_part_bytes};
 ghost use Rattle.writer.specs.Write.{judged, made_of};
-ghost use Rattle.writer.specs.InCode.{writing_by, Put};
+ghost use Rattle.writer.specs.InCode.{writing_by, Within, Put};
 
 use super::Refusal;
 use super::put::{put_byte, put_two};
@@ -66,7 +66,7 @@ fn arities_of(book: &[u8], at: &[u16]) -> [u8; Limits::SYMBOLS]
 // The book, whose front was made and whose symbols take so many arguments, with its trees. `count` is the count of rows.
 fn with_trees(mut made: Made, arities: &[u8], trees: &[u16], count: usize) -> Result<Made, Refusal>
     requires { made.size ≤ most_book_bytes }
-    ensures { (writing_by result ≡ judged count (take made.size made.bytes ++ tree_part_bytes arities.now trees.now)) × IfOk result (λ m. m.size ≤ length m.bytes) }
+    ensures { (writing_by result ≡ judged count (take made.size made.bytes ++ tree_part_bytes arities.now trees.now)) × Within result }
 {
     if Limits::BOOK < trees.len() {
         return Err(Refusal::NotABook { row: count });
@@ -86,7 +86,7 @@ fn with_trees(mut made: Made, arities: &[u8], trees: &[u16], count: usize) -> Re
 
 // The book whose symbols and trees have these rows.
 pub(crate) fn made_of(symbols: &[u16], trees: &[u16]) -> Result<Made, Refusal>
-    ensures { (writing_by result ≡ made_of (record { symbols = symbols.entry.now; trees = trees.now })) × IfOk result (λ m. m.size ≤ length m.bytes) }
+    ensures { (writing_by result ≡ made_of (record { symbols = symbols.entry.now; trees = trees.now })) × Within result }
 {
     let count = count_rows(symbols) + count_rows(trees);
     if Limits::BOOK < 3 + symbols.len() {
