@@ -17,7 +17,7 @@ pub(crate) struct Old<'a> {
     pub ends: &'a [u16],
 }
 
-// A new book: how many bytes it has, and its bytes if they are not more than a book has.
+// A new book: how many bytes it has, and its bytes if they are not more than a book has. There is no heap, so an array of a book's size holds them.
 #[derive(Clone, Copy)]
 pub struct Made {
     pub size: usize,
@@ -67,6 +67,7 @@ impl Old<'_> {
         ensures { PutBehind (spots self.entry.book.now self.entry.ends.now e p) made.old (made.old.size + 9 * most_book_bytes) made.new }
     {
         let mut at = p;
+        // The next place comes from the bytes, so this is no `for`.
         while at < e {
             at = self.put_spot(at, made);
         }
@@ -90,6 +91,7 @@ impl Old<'_> {
         ensures { PutBehind (items self.entry.book.now self.entry.ends.now p) made.old furthest made.new }
     {
         let mut at = p;
+        // The next place comes from the length that stands here, so this is no `for`.
         while at < self.book.len() {
             let e = at + 2 + number(self.book, at);
             self.put_item(e, at, made);

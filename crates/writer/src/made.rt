@@ -16,7 +16,7 @@ use limits::Limits;
 use symbol_part::read_symbol_part;
 use symbols::table::arity_of;
 
-// A book that was made: its size and its bytes, in an array as long as the longest.
+// A book that is made: how many bytes were put, and those that an array as long as the longest book holds. There is no heap.
 #[derive(Clone, Copy)]
 pub struct Made {
     pub size: usize,

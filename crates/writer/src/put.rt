@@ -7,6 +7,7 @@ ghost use Rattle.reading.specs.Bytes.{two_bytes};
 pub fn put_byte(book: &mut [u8], p: usize, b: u8)
     ensures { book.new ≡ set book.old p b }
 {
+    // Tried: `get_mut`, but where it finds no place it tells nothing of the bytes.
     if p < book.len() {
         book[p] = b;
     }

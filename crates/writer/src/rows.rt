@@ -8,6 +8,7 @@ pub(crate) fn count_rows(rows: &[u16]) -> usize
 {
     let mut count: usize = 0;
     let mut p: usize = 0;
+    // The next place comes from the row, so this is no `for`.
     while p < rows.len() {
         p = behind_row(rows, p);
         count += 1;

@@ -174,6 +174,7 @@ impl Made {
         ensures { PutIfFits (items_bytes arities.now (rows_in rows.now)) self.old self.new }
     {
         let mut i: usize = 0;
+        // The next place comes from the row, so this is no `for`.
         while i < rows.len() {
             let end = behind_row(rows, i);
             self.put_item(arities, rows[i] as usize, &rows[i + 1..end]);
