@@ -46,12 +46,19 @@ two-put l p n small =
     let high : n / 256 % 256 ≡ n / 256 = omega arith in
     rw (add-one, high)
 
+-- the same of any two bytes
+pub pair-put : (l : List ℕ) (p a b : ℕ) → set (set l p a) (p + 1) b ≡ sets l p (a ∷ b ∷ [])
+pair-put l p a b = rw add-one refl
+
 -- past the end nothing is there to change
+pub pair_out : (l : List ℕ) (p a b : ℕ) → length l ≤ p → sets l p (a ∷ b ∷ []) ≡ l
+pair_out l p a b out =
+    let one = set_out l p a out in
+    rw one (set_out l (suc p) b (omega arith))
+
 pub two_out : (l : List ℕ) (p n : ℕ) → length l ≤ p → sets l p (two_bytes n) ≡ l
 unfolding two_bytes
-two_out l p n out =
-    let one = set_out l p (n / 256) out in
-    rw one (set_out l (suc p) (n % 256) (omega arith))
+two_out l p n out = pair_out l p (n / 256) (n % 256) out
 
 -- bytes that are left to be put, of which some are put now and the others then are left
 module _ (left a b : List ℕ) (split : left ≡ a ++ b) where

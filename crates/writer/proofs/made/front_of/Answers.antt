@@ -11,5 +11,5 @@ pub returns : goal.returns
 returns c =
     let rows = c.args.rows.now in (
       omega (arith, c.put_rows.ensures.size, length-map rows byte_of),
-      c.put_rows.ensures.bytes ∙ front-put (replicate most_book_bytes 0) rows c.put_byte.ensures (c.put_two.ensures (omega arith)),
+      c.put_rows.ensures.bytes ∙ front-put (replicate most_book_bytes 0) rows c.put_byte.ensures (c.put_two.ensures.number (omega arith)),
     )

@@ -12,4 +12,4 @@ returns c =
     let then = rw c.number.ensures.0 at c.put_items.ensures in
     let zeros = length-replicate {A = ℕ} most_book_bytes 0 in
     let first = c.front-made.ensures in
-    all_made a.self.book.now a.self.ends.now (replicate most_book_bytes 0) _ zeros first (counted-put _ then c.put_two.ensures)
+    all_made a.self.book.now a.self.ends.now (replicate most_book_bytes 0) _ zeros first (counted-put _ then c.put_two.ensures.number)

@@ -5,5 +5,5 @@ use Rattle.converter.proofs.made.Old.put_item.Goals as goal
 
 pub returns : goal.returns
 returns c =
-    let put = counted-put _ c.put_spots.ensures c.put_two.ensures in
+    let put = counted-put _ c.put_spots.ensures c.put_two.ensures.number in
     record { behind = put.behind; near = omega (arith, put.near); put = put.put }

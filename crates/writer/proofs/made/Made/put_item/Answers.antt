@@ -29,7 +29,7 @@ returns c =
               | then-row-n w ↦ (item-missing arities its said w.if-row-n.true w.length-is, omega arith)
               | else-row-n w ↦ (item-whole arities its said w.if-row-n.false (omega (arith, put.put.size)), omega (arith, put.put.size))
             ] in
-            rw is.0 (front-put was.bytes was.size said (tree_row_bytes arities a.row.now) _ _ put.put.bytes (c.put_two.ensures is.1));
+            rw is.0 (front-put was.bytes was.size said (tree_row_bytes arities a.row.now) _ _ put.put.bytes (c.put_two.ensures.number is.1));
       };
       near = omega (arith, put.near);
     }

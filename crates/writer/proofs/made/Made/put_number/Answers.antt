@@ -21,7 +21,7 @@ pub returns-in-Symbol-clause-put : goal.returns-in-Symbol-clause-put
 unfolding number_bytes two_bytes
 returns-in-Symbol-clause-put c =
     let is = c.in-Symbol.is in
-    record { size = rw is refl; bytes = rw is (c.put_two.ensures (omega arith)) }
+    record { size = rw is refl; bytes = rw is (c.put_two.ensures.number (omega arith)) }
 
 pub returns-in_default-clause-put : goal.returns-in_default-clause-put
 returns-in_default-clause-put c =

@@ -18,5 +18,5 @@ returns c =
     let said : c.put_items.new.self.size - (was.size + 2) ≡ length bytes = omega (arith, put.size) in
     record {
       size = omega (arith, put.size, front_length (length bytes) bytes);
-      bytes = λ fits. front-put was.bytes was.size (length bytes) bytes _ _ (put.bytes fits) (rw said at (c.put_two.ensures (omega (arith, put.size))));
+      bytes = λ fits. front-put was.bytes was.size (length bytes) bytes _ _ (put.bytes fits) (rw said at (c.put_two.ensures.number (omega (arith, put.size))));
     }
