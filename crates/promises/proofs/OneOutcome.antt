@@ -3,7 +3,9 @@
 -- `OneOutcomeOf.antt` has the theorem of each function open to callers.
 use mathlib.Core.List.{List, ◌++◌}
 use mathlib.Core.Path.{◌≡◌, refl, sym, ap, ◌∙◌}
-use Prim.Native.Nat.{ℕ, ◌<◌}
+use mathlib.Core.Bool.{true, false}
+use lib.Dec.{eqb}
+use Prim.Native.Nat.{ℕ, ◌<◌, ◌≤◌}
 use native.Mathlib.Omega.{arith}
 use lib.ListN.{take, drop, length, take-append-drop}
 use lib.Seq.{ext_get_or}
@@ -23,6 +25,11 @@ use Rattle.reading.specs.declared.Refusal.{Refusal}
 use Rattle.reading.specs.Reading.{Reading}
 use Rattle.reading.specs.Answer.{reading_of, reading_by}
 use Rattle.reading.proofs.Told.{same_reading, same_told}
+use Rattle.std.specs.Prelude.{Option, Some, None}
+use Rattle.std.specs.Option.{MatchOption}
+use Rattle.expressions.specs.declared.Code.{Code}
+use Rattle.expressions.specs.declared.Code.TheVariants.{Variable, Apply, Choice, Fail, Shared}
+use Rattle.expressions.specs.Codes.{number_of as code_number}
 use Rattle.symbol_part.specs.declared.SymbolPart.{SymbolPart}
 use Rattle.book.specs.declared.BookIndex.{BookIndex}
 use Rattle.writer.specs.declared.Refusal.{Refusal as WriterRefusal}
@@ -120,6 +127,37 @@ one-row r r' one other = rw (one, other) refl
 -- what a reader answers is fixed by what it means, as no two answers mean the same: by `keeping ..` of what the definitions read, as by any other term
 pub one_reading : {t : Reading ℕ} (r r' : Either (ℕ × ℕ) Refusal) → reading_of r ≡ t → reading_of r' ≡ t → r ≡ r'
 one_reading r r' one other = same_reading r r' (one_value one other)
+
+-- the code of a number from 0 to 4
+code_back : ℕ → Code
+code_back n =
+    elim (eqb n 0) [
+      | true ↦ Variable
+      | false ↦ elim (eqb n 1) [ true ↦ Apply | false ↦ elim (eqb n 2) [ true ↦ Choice | false ↦ elim (eqb n 3) [ true ↦ Fail | false ↦ Shared ] ] ]
+    ]
+
+code_is_back : (c : Code) → code_back (code_number c) ≡ c
+code_is_back Variable = refl
+code_is_back Apply = refl
+code_is_back Choice = refl
+code_is_back Fail = refl
+code_is_back Shared = refl
+
+code_in_few : (c : Code) → code_number c ≤ 4
+code_in_few Variable = omega arith
+code_in_few Apply = omega arith
+code_in_few Choice = omega arith
+code_in_few Fail = omega arith
+code_in_few Shared = omega arith
+
+-- the code that a byte is
+pub one-code : {b : ℕ} (r r' : Option Code) → MatchOption r (4 < b) (λ c. b ≡ code_number c) → MatchOption r' (4 < b) (λ c. b ≡ code_number c) → r ≡ r'
+one-code (Some c) (Some c') one other =
+    let same : code_number c ≡ code_number c' = sym one ∙ other in
+    ap Some (sym (code_is_back c) ∙ ap code_back same ∙ code_is_back c')
+one-code (Some c) None one other = absurd (omega (arith, one, other, code_in_few c))
+one-code None (Some c) one other = absurd (omega (arith, one, other, code_in_few c))
+one-code None None one other = refl
 
 -- the symbol part, field by field
 module _ {at ranks next first : List ℕ} where

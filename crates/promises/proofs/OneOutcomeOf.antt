@@ -17,6 +17,9 @@ use Rattle.reading.specs.contracts.number
 use Rattle.reading.specs.contracts.part_of as part_of
 use Rattle.reading.specs.contracts.byte_at as byte_at
 use Rattle.reading.specs.contracts.length_at as length_at
+use Rattle.reading.specs.contracts.Fault.number as fault-number
+use Rattle.reading.specs.contracts.Fault.at as fault-at
+use Rattle.reading.specs.contracts.Refusal.number as refusal-number
 use Rattle.symbols.specs.contracts.table.is_operation as is-operation
 use Rattle.symbols.specs.contracts.table.sort_of as sort-of
 use Rattle.symbols.specs.contracts.table.arguments_of as arguments_of
@@ -24,12 +27,21 @@ use Rattle.symbols.specs.contracts.table.arity_of as arity-of
 use Rattle.symbol_part.specs.contracts.read_symbol_part as read-symbol-part
 use Rattle.symbol_part.specs.contracts.symbols_read as symbols-read
 use Rattle.expressions.specs.contracts.read_whole as read_whole
+use Rattle.expressions.specs.contracts.Code.of as code-of
 use Rattle.book.specs.contracts.read_book as read-book
 use Rattle.question.specs.contracts.read_question as read-question
 use Rattle.book.specs.contracts.rows_read as rows-read
 use Rattle.writer.specs.contracts.write_book as write-book
+use Rattle.writer.specs.contracts.Refusal.number as writer-number
+use Rattle.writer.specs.contracts.Refusal.row as writer-row
+use Rattle.writer.specs.contracts.put.put_byte as put-byte
+use Rattle.writer.specs.contracts.put.put_two as put-two
 use Rattle.converter.specs.contracts.convert_book as convert-book
+use Rattle.converter.specs.contracts.Refusal.number as converter-number
+use Rattle.converter.specs.contracts.Refusal.place as converter-place
 use Rattle.terms.specs.contracts.terms_of as terms-of
+use Rattle.terms.specs.contracts.faults.Fault.at as listing-fault-at
+use Rattle.terms.specs.contracts.faults.Refusal.number as listing-number
 use Rattle.terms.proofs.Refusals.{one-terms}
 use Rattle.listings.specs.contracts.write_listing as write-listing
 use Rattle.circles.specs.contracts.save_listing as save-listing
@@ -47,12 +59,14 @@ use Rattle.nodes.specs.contracts.put_forward as put-forward
 use Rattle.pulls.specs.contracts.pull_up as pull-up
 use Rattle.tallies.specs.contracts.tally
 use Rattle.tallies.specs.contracts.take_back as take_back
+use Rattle.tallies.specs.contracts.Fault.number as tally-number
+use Rattle.tallies.specs.contracts.Fault.at as tally-fault-at
 use Rattle.figures.specs.contracts.add_figures as add-figures
 use Rattle.run.specs.contracts.run
 use Rattle.run.specs.contracts.run_owned as run-owned
 use Rattle.promises.proofs.Contracts.{left_by}
 use Rattle.promises.proofs.OneOutcome.{OneOutcome, OneResult, by_claim, one_value, one_bounded, one_set, one-row, one_reading}
-use Rattle.promises.proofs.OneOutcome.{by_both, one-symbol-part, one_index, one_written, one-converted, one-listed, one-saved, one_added, one_less, one_figured, one-run, one_owned}
+use Rattle.promises.proofs.OneOutcome.{by_both, one-code, one-symbol-part, one_index, one_written, one-converted, one-listed, one-saved, one_added, one_less, one_figured, one-run, one_owned}
 
 -- crate `limits`
 pub all_open_one : OneResult all_open.ended (λ M 𝓤 𝓛. all_open.clauses 𝓛)
@@ -101,6 +115,15 @@ byte_at-one = by_claim byte_at.ended (λ κs a z z' e e'. one_reading z z')
 pub length-at-one : OneResult length_at.ended (λ M 𝓤 𝓛. length_at.clauses 𝓛)
 length-at-one = by_claim length_at.ended (λ κs a z z' e e'. one_reading z z')
 
+pub fault-number-one : OneResult fault-number.ended (λ M 𝓤 𝓛. fault-number.clauses 𝓛)
+fault-number-one = by_claim fault-number.ended (λ κs a z z' e e'. one_bounded)
+
+pub fault-at-one : OneResult fault-at.ended (λ M 𝓤 𝓛. fault-at.clauses 𝓛)
+fault-at-one = by_claim fault-at.ended (λ κs a z z' e e'. one_value)
+
+pub refusal-number-one : OneResult refusal-number.ended (λ M 𝓤 𝓛. refusal-number.clauses 𝓛)
+refusal-number-one = by_claim refusal-number.ended (λ κs a z z' e e'. one_bounded)
+
 -- crate `symbols`
 pub is-operation-one : OneResult is-operation.ended (λ M 𝓤 𝓛. is-operation.clauses 𝓛)
 is-operation-one = by_claim is-operation.ended (λ κs a z z' e e'. one_value)
@@ -125,6 +148,9 @@ symbols-read-one = by_claim symbols-read.ended (λ κs a z z' e e'. one_bounded)
 pub read-whole-one : OneResult read_whole.ended (λ M 𝓤 𝓛. read_whole.clauses 𝓛)
 read-whole-one = by_claim read_whole.ended (λ κs a z z' e e'. one_reading z z')
 
+pub code-of-one : OneResult code-of.ended (λ M 𝓤 𝓛. code-of.clauses 𝓛)
+code-of-one = by_claim code-of.ended (λ κs a z z' e e'. one-code z z')
+
 -- crate `book`
 pub read-book-one : OneResult read-book.ended (λ M 𝓤 𝓛. read-book.clauses 𝓛)
 read-book-one = by_both read-book.ended (λ κs a z z' e e'. one_index z z')
@@ -137,14 +163,38 @@ pub read-question-one : OneResult read-question.ended (λ M 𝓤 𝓛. read-ques
 read-question-one = by_claim read-question.ended (λ κs a z z' e e'. one_reading z z')
 
 -- crate `writer`
+pub writer-number-one : OneResult writer-number.ended (λ M 𝓤 𝓛. writer-number.clauses 𝓛)
+writer-number-one = by_claim writer-number.ended (λ κs a z z' e e'. one_value)
+
+pub writer-row-one : OneResult writer-row.ended (λ M 𝓤 𝓛. writer-row.clauses 𝓛)
+writer-row-one = by_claim writer-row.ended (λ κs a z z' e e'. one_value)
+
+pub put-byte-one : OneOutcome put-byte.ended (λ κs z z' e e'. e.0.now ≡ e'.0.now) (λ M 𝓤 𝓛. put-byte.clauses 𝓛)
+put-byte-one = by_claim put-byte.ended (λ κs a z z' e e'. one_value)
+
+pub put-two-one : OneOutcome put-two.ended (λ κs z z' e e'. e.0.now ≡ e'.0.now) (λ M 𝓤 𝓛. put-two.clauses 𝓛)
+put-two-one = by_both put-two.ended (λ κs a z z' e e' one other. one_value one.0 other.0)
+
 pub write-book-one : OneOutcome write-book.ended (λ κs z z' e e'. (z ≡ z') × (e.1.1.0.now ≡ e'.1.1.0.now)) (λ M 𝓤 𝓛. write-book.clauses 𝓛)
 write-book-one = by_claim write-book.ended (λ κs a z z' e e'. one_written z z' e.1.1.0.now e'.1.1.0.now)
 
 -- crate `converter`
+pub converter-number-one : OneResult converter-number.ended (λ M 𝓤 𝓛. converter-number.clauses 𝓛)
+converter-number-one = by_claim converter-number.ended (λ κs a z z' e e'. one_value)
+
+pub converter-place-one : OneResult converter-place.ended (λ M 𝓤 𝓛. converter-place.clauses 𝓛)
+converter-place-one = by_claim converter-place.ended (λ κs a z z' e e'. one_value)
+
 pub convert-book-one : OneOutcome convert-book.ended (λ κs z z' e e'. (z ≡ z') × (e.1.0.now ≡ e'.1.0.now)) (λ M 𝓤 𝓛. convert-book.clauses 𝓛)
 convert-book-one = by_claim convert-book.ended (λ κs a z z' e e'. one-converted z z' e.1.0.now e'.1.0.now)
 
 -- crate `terms`
+pub listing-fault-at-one : OneResult listing-fault-at.ended (λ M 𝓤 𝓛. listing-fault-at.clauses 𝓛)
+listing-fault-at-one = by_claim listing-fault-at.ended (λ κs a z z' e e'. one_value)
+
+pub listing-number-one : OneResult listing-number.ended (λ M 𝓤 𝓛. listing-number.clauses 𝓛)
+listing-number-one = by_claim listing-number.ended (λ κs a z z' e e'. one_value)
+
 pub terms_of_one : OneResult terms-of.ended (λ M 𝓤 𝓛. terms-of.clauses 𝓛)
 terms_of_one = by_claim terms-of.ended (λ κs a z z' e e' one other. one-terms z z' (one_bounded one other))
 
@@ -195,6 +245,12 @@ pub pull_up-one : OneOutcome pull-up.ended (λ κs z z' e e'. (z ≡ z') × (e.0
 pull_up-one = by_claim pull-up.ended (λ κs a z z' e e' one other. (one_value one.0 other.0, one_value one.1 other.1))
 
 -- crate `tallies`
+pub tally-number-one : OneResult tally-number.ended (λ M 𝓤 𝓛. tally-number.clauses 𝓛)
+tally-number-one = by_claim tally-number.ended (λ κs a z z' e e'. one_value)
+
+pub tally-fault-at-one : OneResult tally-fault-at.ended (λ M 𝓤 𝓛. tally-fault-at.clauses 𝓛)
+tally-fault-at-one = by_claim tally-fault-at.ended (λ κs a z z' e e'. one_value)
+
 pub tally_one : OneOutcome tally.ended (λ κs z z' e e'. (z ≡ z') × (e.1.1.0.now ≡ e'.1.1.0.now)) (λ M 𝓤 𝓛. tally.clauses 𝓛)
 tally_one = by_claim tally.ended (λ κs a z z' e e'. one_added z z' e.1.1.0.now e'.1.1.0.now)
 
