@@ -129,7 +129,7 @@ pub one_reading : {t : Reading ℕ} (r r' : Either (ℕ × ℕ) Refusal) → rea
 one_reading r r' one other = same_reading r r' (one_value one other)
 
 -- the code of a number from 0 to 4
-code_back : ℕ → Code
+abbrev code_back : ℕ → Code
 code_back n =
     elim (eqb n 0) [
       | true ↦ Variable
@@ -151,16 +151,16 @@ code_in_few Fail = omega arith
 code_in_few Shared = omega arith
 
 -- the code that a byte is
-pub one-code : {b : ℕ} (r r' : Option Code) → MatchOption r (4 < b) (λ c. b ≡ code_number c) → MatchOption r' (4 < b) (λ c. b ≡ code_number c) → r ≡ r'
-one-code (Some c) (Some c') one other =
+pub one-code : (b : ℕ) (r r' : Option Code) → MatchOption r (4 < b) (λ c. b ≡ code_number c) → MatchOption r' (4 < b) (λ c. b ≡ code_number c) → r ≡ r'
+one-code b (Some c) (Some c') one other =
     let same : code_number c ≡ code_number c' = sym one ∙ other in
     ap Some (sym (code_is_back c) ∙ ap code_back same ∙ code_is_back c')
-one-code (Some c) None one other = absurd (omega (arith, one, other, code_in_few c))
-one-code None (Some c) one other = absurd (omega (arith, one, other, code_in_few c))
-one-code None None one other = refl
+one-code b (Some c) None one other = absurd (omega (arith, one, other, code_in_few c))
+one-code b None (Some c) one other = absurd (omega (arith, one, other, code_in_few c))
+one-code b None None one other = refl
 
 -- the symbol part, field by field
-module _ {at ranks next first : List ℕ} where
+module _ (at ranks next first : List ℕ) where
   abbrev pub PartIs : SymbolPart → Type 0
   PartIs p = (p.at ≡ at) × (p.ranks ≡ ranks) × (p.chain.next ≡ next) × (p.chain.first ≡ first)
 
@@ -174,7 +174,7 @@ module _ {at ranks next first : List ℕ} where
       same_told (λ p. (p.count, p.next)) PartIs one_part r r' arrays arrays' (one_value reading reading')
 
 -- the index of a book, field by field
-module _ {at info ends : List ℕ} where
+module _ (at info ends : List ℕ) where
   abbrev pub IndexIs : BookIndex → Type 0
   IndexIs i = (i.at ≡ at) × (i.info ≡ info) × (i.ends ≡ ends)
 

@@ -139,7 +139,7 @@ arity_of_one = by_claim arity-of.ended (λ κs a z z' e e'. one_bounded)
 
 -- crate `symbol_part`
 pub read-symbol-part-one : OneResult read-symbol-part.ended (λ M 𝓤 𝓛. read-symbol-part.clauses 𝓛)
-read-symbol-part-one = by_both read-symbol-part.ended (λ κs a z z' e e'. one-symbol-part z z')
+read-symbol-part-one = by_both read-symbol-part.ended (λ κs a z z' e e'. one-symbol-part _ _ _ _ z z')
 
 pub symbols-read-one : OneResult symbols-read.ended (λ M 𝓤 𝓛. symbols-read.clauses 𝓛)
 symbols-read-one = by_claim symbols-read.ended (λ κs a z z' e e'. one_bounded)
@@ -149,11 +149,11 @@ pub read-whole-one : OneResult read_whole.ended (λ M 𝓤 𝓛. read_whole.clau
 read-whole-one = by_claim read_whole.ended (λ κs a z z' e e'. one_reading z z')
 
 pub code-of-one : OneResult code-of.ended (λ M 𝓤 𝓛. code-of.clauses 𝓛)
-code-of-one = by_claim code-of.ended (λ κs a z z' e e'. one-code z z')
+code-of-one = by_claim code-of.ended (λ κs a z z' e e'. one-code _ z z')
 
 -- crate `book`
 pub read-book-one : OneResult read-book.ended (λ M 𝓤 𝓛. read-book.clauses 𝓛)
-read-book-one = by_both read-book.ended (λ κs a z z' e e'. one_index z z')
+read-book-one = by_both read-book.ended (λ κs a z z' e e'. one_index _ _ _ z z')
 
 pub rows-read-one : OneResult rows-read.ended (λ M 𝓤 𝓛. rows-read.clauses 𝓛)
 rows-read-one = by_claim rows-read.ended (λ κs a z z' e e'. one_bounded)
