@@ -14,6 +14,7 @@ use terms::{Fault, HEADINGS, ROWS, Refusal, TERMS, terms_of};
 #[derive(Clone, Copy, Debug, PartialEq, Eq)]
 pub struct Saved {
     pub headings: usize,
+    // A count, 0 for none: an Option would allow `Some(0)`, which no listing has.
     pub circle: usize,
 }
 

@@ -79,6 +79,7 @@ fn one_more(f: usize, totals: &mut [u32]) -> Result<(), Fault>
 fn one_less(f: usize, totals: &mut [u32])
     ensures { Lessened f totals.old totals.new }
 {
+    // Tried: `get_mut`, but where it finds no total it tells nothing of the others.
     if f < totals.len() {
         totals[f] = totals[f].saturating_sub(1);
     }
