@@ -19,10 +19,13 @@ returns-then-row-headings c =
     let t = told_of (Ok c.in_ok-t.t) in
     rw c.at.ensures (saved-short t c.args.s.now c.args.row.now c.in_ok-t.ensures.1 refl c.if-row-headings.true)
 
-pub answer-circle-requires : goal.answer-circle-requires
-answer-circle-requires c =
+pub invariant_of-rows : goal.invariant_of-rows
+invariant_of-rows c =
     let t = told_of (Ok c.in_ok-t.t) in
-    (record { terms = saved-hold t c.args.s.now c.args.row.now c.in_ok-t.ensures.1 refl; places = search rules }, c.if-row-headings.false)
+    record { holding = record { terms = saved-hold t c.args.s.now c.args.row.now c.in_ok-t.ensures.1 refl; places = search rules } }
+
+pub answer-circle-requires : goal.answer-circle-requires
+answer-circle-requires c = c.if-row-headings.false
 
 pub returns : goal.returns
 returns c =
