@@ -98,123 +98,98 @@ fn size_of(above: bool, terms: usize) -> usize
     if above { 8 * terms } else { 4 * terms }
 }
 
-// A broader term that is not the last; "for each BT, the term and then that term's own second operation".
-fn put_next(room: &mut [u8], at: usize, x: usize, above: bool, n: usize) -> usize
-    requires { (n ≤ most_headings) × (x < n) × Fits at (next_laid above n x) }
-    ensures { Put room.old at (next_laid above n x) result room.new }
-{
-    let own = n + n + x;
-    let p = put_choice(room, at, x);
-    if above { put_choice(room, p, own) } else { p }
-}
-
-// The last.
-fn put_last(room: &mut [u8], at: usize, x: usize, above: bool, n: usize) -> usize
-    requires { (n ≤ most_headings) × (x < n) × Fits at (nest_laid above n (x ∷ [])) }
-    ensures { Put room.old at (nest_laid above n (x ∷ [])) result room.new }
-{
-    if above {
-        let q = put_choice(room, at, x);
-        put_term(room, q, n + n + x)
-    } else {
-        put_term(room, at, x)
-    }
-}
-
-// The broader terms from place a to place b of `to`, at least one, "as choices in listing order, nested to the right".
-fn put_nest(
-    room: &mut [u8],
-    at: usize,
-    to: &[u16; TERMS],
-    a: usize,
-    b: usize,
-    above: bool,
+// The broader terms of n headings, as a listing told them. What is known of the two rows is said once, here.
+#[derive(Clone, Copy)]
+struct Rows<'a> {
+    from: &'a [u16; ROWS],
+    to: &'a [u16; TERMS],
     n: usize,
-) -> usize
-    requires { HoldRow to.now n a b × (a < b) × Fits at (nest_laid above n (bytes_of to.now a b)) }
-    ensures { Put room.old at (nest_laid above n (bytes_of to.now a b)) result room.new }
-{
-    let last = b - 1;
-    let mut p = at;
-    for i in a..last {
-        p = put_next(room, p, to[i] as usize, above, n);
+    ghost holding: { HoldRows from.now to.now n },
+}
+
+impl<'a> Rows<'a> {
+    // A broader term that is not the last; "for each BT, the term and then that term's own second operation".
+    fn put_next(self, room: &mut [u8], at: usize, x: usize, above: bool) -> usize
+        requires { (x < self.n) × Fits at (next_laid above self.n x) }
+        ensures { Put room.old at (next_laid above self.entry.n x) result room.new }
+    {
+        let own = self.n + self.n + x;
+        let p = put_choice(room, at, x);
+        if above { put_choice(room, p, own) } else { p }
     }
-    put_last(room, p, to[last] as usize, above, n)
-}
 
-// A rule of these broader terms, "or fail where there are none", with its length in front.
-fn put_rule(
-    room: &mut [u8],
-    at: usize,
-    to: &[u16; TERMS],
-    a: usize,
-    b: usize,
-    above: bool,
-    n: usize,
-) -> usize
-    requires { HoldRow to.now n a b × Fits at (rule_laid above n (bytes_of to.now a b)) }
-    ensures { Put room.old at (rule_laid above n (bytes_of to.now a b)) result room.new }
-{
-    let p = put_two(room, at, size_of(above, b - a));
-    let q = put(room, p, 1);
-    if a == b {
-        put(room, q, 3)
-    } else {
-        put_nest(room, q, to, a, b, above, n)
+    // The last.
+    fn put_last(self, room: &mut [u8], at: usize, x: usize, above: bool) -> usize
+        requires { (x < self.n) × Fits at (nest_laid above self.n (x ∷ [])) }
+        ensures { Put room.old at (nest_laid above self.entry.n (x ∷ [])) result room.new }
+    {
+        if above {
+            let q = put_choice(room, at, x);
+            put_term(room, q, self.n + self.n + x)
+        } else {
+            put_term(room, at, x)
+        }
     }
-}
 
-// The rules of all headings' first operations, or second ones.
-fn put_rules(
-    room: &mut [u8],
-    at: usize,
-    from: &[u16; ROWS],
-    to: &[u16; TERMS],
-    n: usize,
-    above: bool,
-) -> usize
-    requires { HoldRows from.now to.now n × Fits at (rules_laid above n (broader_rows from.now to.now n 0)) }
-    ensures { Put room.old at (rules_laid above n (broader_rows from.now to.now n 0)) result room.new }
-{
-    let mut p = at;
-    for x in 0..n {
-        p = put_rule(
-            room,
-            p,
-            to,
-            from[x] as usize,
-            from[x + 1] as usize,
-            above,
-            n,
-        );
+    // The broader terms from place a to place b of `to`, at least one, "as choices in listing order, nested to the right".
+    fn put_nest(self, room: &mut [u8], at: usize, a: usize, b: usize, above: bool) -> usize
+        requires { HoldRow self.to.now self.n a b × (a < b) × Fits at (nest_laid above self.n (bytes_of self.to.now a b)) }
+        ensures { Put room.old at (nest_laid above self.entry.n (bytes_of self.entry.to.now a b)) result room.new }
+    {
+        let last = b - 1;
+        let mut p = at;
+        for i in a..last {
+            p = self.put_next(room, p, self.to[i] as usize, above);
+        }
+        self.put_last(room, p, self.to[last] as usize, above)
     }
-    p
-}
 
-// The tree part, of so many bytes behind its length.
-fn put_trees(
-    room: &mut [u8],
-    at: usize,
-    from: &[u16; ROWS],
-    to: &[u16; TERMS],
-    n: usize,
-    size: usize,
-) -> usize
-    requires { HoldRows from.now to.now n × (size ≡ length (part_of from.now to.now n)) × (at + 2 + size ≤ most_book_bytes) }
-    ensures { Put room.old at (two_bytes size ++ part_of from.now to.now n) result room.new }
-{
-    let mut p = put_two(room, at, size);
-    p = put_rules(room, p, from, to, n, false);
-    put_rules(room, p, from, to, n, true)
-}
+    // A rule of these broader terms, "or fail where there are none", with its length in front.
+    fn put_rule(self, room: &mut [u8], at: usize, a: usize, b: usize, above: bool) -> usize
+        requires { HoldRow self.to.now self.n a b × Fits at (rule_laid above self.n (bytes_of self.to.now a b)) }
+        ensures { Put room.old at (rule_laid above self.entry.n (bytes_of self.entry.to.now a b)) result room.new }
+    {
+        let p = put_two(room, at, size_of(above, b - a));
+        let q = put(room, p, 1);
+        if a == b {
+            put(room, q, 3)
+        } else {
+            self.put_nest(room, q, a, b, above)
+        }
+    }
 
-// The book of the broader terms that the two rows hold, of so many bytes.
-fn put_book(room: &mut [u8], from: &[u16; ROWS], to: &[u16; TERMS], n: usize, size: usize)
-    requires { HoldRows from.now to.now n × (size ≡ length (book_of from.now to.now n)) × (size ≤ most_book_bytes) × (size ≤ length room.old) }
-    ensures { room.new ≡ book_of from.now to.now n ++ drop size room.old }
-{
-    let p = put_front(room, n);
-    put_trees(room, p, from, to, n, size - 5 - 9 * n);
+    // The rules of all headings' first operations, or second ones.
+    fn put_rules(self, room: &mut [u8], at: usize, above: bool) -> usize
+        requires { Fits at (rules_laid above self.n (broader_rows self.from.now self.to.now self.n 0)) }
+        ensures { Put room.old at (rules_laid above self.entry.n (broader_rows self.entry.from.now self.entry.to.now self.entry.n 0)) result room.new }
+    {
+        let mut p = at;
+        for x in 0..self.n {
+            let a = self.from[x] as usize;
+            let b = self.from[x + 1] as usize;
+            p = self.put_rule(room, p, a, b, above);
+        }
+        p
+    }
+
+    // The tree part, of so many bytes behind its length.
+    fn put_trees(self, room: &mut [u8], at: usize, size: usize) -> usize
+        requires { (size ≡ length (part_of self.from.now self.to.now self.n)) × (at + 2 + size ≤ most_book_bytes) }
+        ensures { Put room.old at (two_bytes size ++ part_of self.entry.from.now self.entry.to.now self.entry.n) result room.new }
+    {
+        let mut p = put_two(room, at, size);
+        p = self.put_rules(room, p, false);
+        self.put_rules(room, p, true)
+    }
+
+    // The book of the broader terms that the two rows hold, of so many bytes.
+    fn put_book(self, room: &mut [u8], size: usize)
+        requires { (size ≡ length (book_of self.from.now self.to.now self.n)) × (size ≤ most_book_bytes) × (size ≤ length room.old) }
+        ensures { room.new ≡ book_of self.entry.from.now self.entry.to.now self.entry.n ++ drop size room.old }
+    {
+        let p = put_front(room, self.n);
+        self.put_trees(room, p, size - 5 - 9 * self.n);
+    }
 }
 
 // "Books from the tagged listing": writes the book of a listing into the room lent, from its first byte on: how many bytes it has.
@@ -227,6 +202,11 @@ pub fn write_listing(s: &[u8], room: &mut [u8]) -> Result<usize, Refusal>
     if room.len() < size {
         return Err(Fault::Size.at(0));
     }
-    put_book(room, &t.from, &t.to, t.headings, size);
+    let rows = Rows {
+        from: &t.from,
+        to: &t.to,
+        n: t.headings,
+    };
+    rows.put_book(room, size);
     Ok(size)
 }

@@ -22,14 +22,21 @@ returns-then-room-size c =
     let room = c.args.room.now in
     rw c.at.ensures (room-way s room t (told-way s room t c.in_ok-t.ensures.1 refl) c.if-room-size.true)
 
-pub put_book-requires : goal.put_book-requires
-put_book-requires c =
+pub invariant_of-rows : goal.invariant_of-rows
+invariant_of-rows c =
     let whole : length c.in_ok-t.t.to ≡ most_terms = search rules in
     let t = told_of (Ok c.in_ok-t.t) in
     let s = c.args.s.now in
     let room = c.args.room.now in
+    record { holding = record { whole = whole; terms = told-hold s room t (told-way s room t c.in_ok-t.ensures.1 refl) } }
+
+pub put_book-requires : goal.put_book-requires
+put_book-requires c =
+    let t = told_of (Ok c.in_ok-t.t) in
+    let s = c.args.s.now in
+    let room = c.args.room.now in
     let terms = told-way s room t c.in_ok-t.ensures.1 refl in
-    (record { whole = whole; terms = told-hold s room t terms }, told-size s room t terms, told-small s room t terms, c.if-room-size.false)
+    (told-size s room t terms, told-small s room t terms, c.if-room-size.false)
 
 pub returns : goal.returns
 returns c =

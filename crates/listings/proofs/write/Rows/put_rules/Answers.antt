@@ -8,34 +8,26 @@ use Rattle.terms.specs.TermRows.{broader_rows}
 use Rattle.listings.specs.Putting.{rule_laid, rules_laid}
 use Rattle.listings.proofs.PutWays.{left-all, left-put, left-fits, left-same, left-none}
 use Rattle.listings.proofs.WriteWays.{rules-more, rules-none, hold_row}
-use Rattle.listings.proofs.write.put_rules.Goals as goal
+use Rattle.listings.proofs.write.Rows.put_rules.Goals as goal
 
 pub loop-x-init : goal.loop-x-init
 loop-x-init c = (omega arith, rw sub-zero left-all)
-
-pub overflow_cast-from : goal.overflow_cast-from
-overflow_cast-from c = omega (arith, c.requires.0.terms.filled c.loop-x.x (omega arith))
-
-pub overflow_cast-from-in-loop-x : goal.overflow_cast-from-in-loop-x
-overflow_cast-from-in-loop-x c =
-    let l = c.loop-x in
-    omega (arith, c.requires.0.terms.filled (l.x + 1) (omega arith))
 
 pub put_rule-p-requires : goal.put_rule-p-requires
 put_rule-p-requires c =
     let a = c.args in
     let l = c.loop-x in
     let less = c.loop-x-test.true in
-    let split = rules-more a.from.now a.to.now a.above a.n l.x less in
-    let first = rule_laid a.above a.n (bytes_of a.to.now (get_or a.from.now l.x 0) (get_or a.from.now (l.x + 1) 0)) in
-    let rest = rules_laid a.above a.n (broader_rows a.from.now a.to.now (a.n - (l.x + 1)) (l.x + 1)) in
-    (hold_row a.from.now a.to.now a.n c.requires.0 l.x less, left-fits first rest split l.invariant.1 c.requires.1)
+    let split = rules-more a.self.from.now a.self.to.now a.above a.self.n l.x less in
+    let first = rule_laid a.above a.self.n (bytes_of a.self.to.now (get_or a.self.from.now l.x 0) (get_or a.self.from.now (l.x + 1) 0)) in
+    let rest = rules_laid a.above a.self.n (broader_rows a.self.from.now a.self.to.now (a.self.n - (l.x + 1)) (l.x + 1)) in
+    (hold_row a.self.from.now a.self.to.now a.self.n a.self.holding l.x less, left-fits first rest split l.invariant.1 c.requires)
 
 pub loop-x-preserved : goal.loop-x-preserved
 loop-x-preserved c =
     let l = c.loop-x in
     let a = c.args in
-    let split = rules-more a.from.now a.to.now a.above a.n l.x c.loop-x-test.true in
+    let split = rules-more a.self.from.now a.self.to.now a.above a.self.n l.x c.loop-x-test.true in
     (omega arith, left-put split l.invariant.1 c.put_rule-p.ensures)
 
 pub shape_of-room : goal.shape_of-room
@@ -45,4 +37,4 @@ pub returns : goal.returns
 returns c =
     let a = c.args in
     let l = c.loop-x in
-    left-none (rules-none a.from.now a.to.now a.above a.n l.x c.loop-x-test.false) l.invariant.1
+    left-none (rules-none a.self.from.now a.self.to.now a.above a.self.n l.x c.loop-x-test.false) l.invariant.1

@@ -7,49 +7,41 @@ use Rattle.listings.specs.Putting.{next_laid, nest_laid}
 use Rattle.terms.specs.Places.{bytes_of}
 use Rattle.listings.proofs.PutWays.{put_same, left-all, left-put, left-fits, left-same, left-last}
 use Rattle.listings.proofs.RuleWays.{nest_more, nest_one}
-use Rattle.listings.proofs.write.put_nest.Goals as goal
+use Rattle.listings.proofs.write.Rows.put_nest.Goals as goal
 
 pub loop-i-init : goal.loop-i-init
 loop-i-init c = (omega arith, omega arith, left-all)
-
-pub overflow_cast-to : goal.overflow_cast-to
-overflow_cast-to c =
-    omega (arith, c.requires.0.few, c.requires.0.inside c.loop-i.i (omega arith))
 
 pub put_next-p-requires : goal.put_next-p-requires
 put_next-p-requires c =
     let l = c.loop-i in
     let a = c.args in
     let row = c.requires.0 in
-    let filled : a.b ≤ length a.to.now = omega (arith, row.whole, row.filled) in
-    let split = nest_more a.above a.n a.to.now l.i a.b filled (omega arith) in
-    let first = next_laid a.above a.n (get_or a.to.now l.i 0) in
-    let rest = nest_laid a.above a.n (bytes_of a.to.now (l.i + 1) a.b) in
-    (row.few, row.inside l.i (omega arith), left-fits first rest split l.invariant.2 c.requires.2)
+    let filled : a.b ≤ length a.self.to.now = omega (arith, row.whole, row.filled) in
+    let split = nest_more a.above a.self.n a.self.to.now l.i a.b filled (omega arith) in
+    let first = next_laid a.above a.self.n (get_or a.self.to.now l.i 0) in
+    let rest = nest_laid a.above a.self.n (bytes_of a.self.to.now (l.i + 1) a.b) in
+    (row.inside l.i (omega arith), left-fits first rest split l.invariant.2 c.requires.2)
 
 pub loop-i-preserved : goal.loop-i-preserved
 loop-i-preserved c =
     let l = c.loop-i in
     let a = c.args in
     let row = c.requires.0 in
-    let filled : a.b ≤ length a.to.now = omega (arith, row.whole, row.filled) in
-    let split = nest_more a.above a.n a.to.now l.i a.b filled (omega arith) in
+    let filled : a.b ≤ length a.self.to.now = omega (arith, row.whole, row.filled) in
+    let split = nest_more a.above a.self.n a.self.to.now l.i a.b filled (omega arith) in
     (omega arith, omega arith, left-put split l.invariant.2 c.put_next-p.ensures)
-
-pub overflow_cast-to-2 : goal.overflow_cast-to-2
-overflow_cast-to-2 c =
-    omega (arith, c.requires.0.few, c.requires.0.inside c.loop-i.i (omega arith))
 
 pub put_last-requires : goal.put_last-requires
 put_last-requires c =
     let l = c.loop-i in
     let a = c.args in
     let row = c.requires.0 in
-    let filled : a.b ≤ length a.to.now = omega (arith, row.whole, row.filled) in
+    let filled : a.b ≤ length a.self.to.now = omega (arith, row.whole, row.filled) in
     let last = a.b - 1 in
     let at-last : l.i ≡ last = omega arith in
-    let is = nest_one a.above a.n a.to.now last a.b filled (omega arith) (omega arith) in
-    (row.few, row.inside last (omega arith), omega (arith, ap length is, (rw at-last at l.invariant.2).behind, c.requires.2))
+    let is = nest_one a.above a.self.n a.self.to.now last a.b filled (omega arith) (omega arith) in
+    (row.inside last (omega arith), omega (arith, ap length is, (rw at-last at l.invariant.2).behind, c.requires.2))
 
 pub shape_of-room : goal.shape_of-room
 shape_of-room c = put_same c.put_last.ensures ∙ left-same c.loop-i.invariant.2
@@ -59,8 +51,8 @@ returns c =
     let l = c.loop-i in
     let a = c.args in
     let row = c.requires.0 in
-    let filled : a.b ≤ length a.to.now = omega (arith, row.whole, row.filled) in
+    let filled : a.b ≤ length a.self.to.now = omega (arith, row.whole, row.filled) in
     let last = a.b - 1 in
     let at-last : l.i ≡ last = omega arith in
-    let is = nest_one a.above a.n a.to.now last a.b filled (omega arith) (omega arith) in
+    let is = nest_one a.above a.self.n a.self.to.now last a.b filled (omega arith) (omega arith) in
     left-last is (rw at-last at l.invariant.2) c.put_last.ensures
