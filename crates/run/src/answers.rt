@@ -23,7 +23,7 @@ fn put_two(bytes: &mut [u8], p: usize, n: usize)
 // The symbols from where an arrow leads down, two bytes each, from p on: the place behind. `depth` bounds how deep they stand.
 #[cycle(put_row_put_symbols)]
 fn put_symbols(
-    book: Indexed,
+    book: &Indexed,
     nodes: &[u16],
     used: usize,
     bytes: &mut [u8],
@@ -31,8 +31,8 @@ fn put_symbols(
     arrow: u16,
     p: usize,
 ) -> usize
-    requires { SymbolsAsked book.bytes.now book.table.now nodes.now used bytes.old depth arrow p }
-    ensures { SymbolsTold book.entry.bytes.now book.entry.table.now nodes.now used bytes.old depth arrow p result bytes.new }
+    requires { SymbolsAsked book.now.bytes.now book.now.table.now nodes.now used bytes.old depth arrow p }
+    ensures { SymbolsTold book.now.bytes.now book.now.table.now nodes.now used bytes.old depth arrow p result bytes.new }
 {
     if depth == 0 {
         return p;
@@ -59,7 +59,7 @@ fn put_symbols(
 // The same of the arguments of node n, from the j-th on.
 #[cycle(put_row_put_symbols)]
 fn put_row(
-    book: Indexed,
+    book: &Indexed,
     nodes: &[u16],
     used: usize,
     bytes: &mut [u8],
@@ -69,8 +69,8 @@ fn put_row(
     arity: usize,
     p: usize,
 ) -> usize
-    requires { RowAsked book.bytes.now book.table.now nodes.now used bytes.old depth n j arity p }
-    ensures { RowTold book.entry.bytes.now book.entry.table.now nodes.now used bytes.old depth n j p result bytes.new }
+    requires { RowAsked book.now.bytes.now book.now.table.now nodes.now used bytes.old depth n j arity p }
+    ensures { RowTold book.now.bytes.now book.now.table.now nodes.now used bytes.old depth n j p result bytes.new }
 {
     if arity <= j {
         return p;
@@ -103,7 +103,7 @@ fn put_decisions(bytes: &mut [u8], ds: Decisions, from: usize)
 
 // The record of a value of so many symbols, `size` bytes in all, from p on.
 pub(crate) fn put_record(
-    book: Indexed,
+    book: &Indexed,
     nodes: &[u16],
     used: usize,
     bytes: &mut [u8],
@@ -113,8 +113,8 @@ pub(crate) fn put_record(
     size: usize,
     p: usize,
 )
-    requires { RecordAsked book.bytes.now book.table.now nodes.now used bytes.old root ds symbols size p }
-    ensures { RecordTold book.entry.bytes.now book.entry.table.now nodes.now used bytes.old root ds p bytes.new }
+    requires { RecordAsked book.now.bytes.now book.now.table.now nodes.now used bytes.old root ds symbols size p }
+    ensures { RecordTold book.now.bytes.now book.now.table.now nodes.now used bytes.old root ds p bytes.new }
 {
     put_two(bytes, p, size - 2);
     put_two(bytes, p + 2, symbols);

@@ -78,7 +78,7 @@ put_symbols-returns-then-kind_at t c =
 put-symbols-found : (t : ℕ) (c : put_symbols-Else-kind_at t)
     → let start = c in
     let a = c.args in
-    AtApply (arity_by a.book.bytes.now a.book.table.now) a.nodes.now a.used c.requires.0 a.depth a.arrow c.follow-n.result
+    AtApply (arity_by a.book.now.bytes.now a.book.now.table.now) a.nodes.now a.used c.requires.0 a.depth a.arrow c.follow-n.result
 put-symbols-found t c =
     let c = c in
     let a = c.args in
@@ -103,7 +103,7 @@ put_symbols-put_row-requires t c =
         pre.0,
         pre.1,
         found.inside,
-        c.arity_of.ensures.0 ∙ ap (arity_by a.book.bytes.now a.book.table.now) label ∙ found.many,
+        c.arity_of.ensures.0 ∙ ap (arity_by a.book.now.bytes.now a.book.now.table.now) label ∙ found.many,
         omega (arith, pre.3, c.put_two.auto.bytes, ap length found.symbols),
       ),
     )
