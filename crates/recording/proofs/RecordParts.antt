@@ -1,7 +1,7 @@
 -- The record of an answer as the code has it: how many numbers it is, and what it comes to with room for them and without.
 use mathlib.Core.Bool.{Bool, true, false}
 use mathlib.Core.List.{List, [], ◌∷◌, ◌++◌}
-use mathlib.Core.Path.{◌≡◌, sym, ap, ◌∙◌}
+use mathlib.Core.Path.{◌≡◌, refl, sym, ap, ◌∙◌}
 use Prim.Native.Nat.{ℕ, suc, ◌+◌, ◌*◌, ◌<◌, ◌≤◌}
 use native.Mathlib.Omega.{arith}
 use lib.ListN.{length, length-append}
@@ -13,17 +13,26 @@ use Rattle.alike.specs.Asked.{Answer, asking, record_bytes}
 use Rattle.standing.specs.Held.{Decided}
 use Rattle.standing.proofs.Behind.{Numbers, each-length}
 use Rattle.standing.proofs.DecidedNumbers.{numbers-count}
-use Rattle.recording.specs.RecordContracts.{Records}
+use Rattle.std.specs.Prelude.{Option, None, Some, is_some}
+use Rattle.recording.specs.RecordContracts.{Records, asked_number}
 
 -- a run that took a row writes the question's number
-module _ (row : Bool) (question : ℕ) where
-  pub asked : row ≡ true → asking row question ≡ question ∷ []
-  unfolding asking
-  asked e = rw e
+pub asked : (row : Bool) (question : ℕ) {o : Option ℕ} → o ≡ asked_number row question → (n : ℕ) → o ≡ Some n → asking row question ≡ n ∷ []
+unfolding asking
+asked true question is n some = let same : question ≡ n = cc in rw same
+asked false question is n some = absurd (let z : ◌≡◌ {A = ℕ} 0 1 = cc in omega arith)
 
-  pub unasked : row ≡ false → asking row question ≡ []
-  unfolding asking
-  unasked e = rw e
+pub unasked : (row : Bool) (question : ℕ) {o : Option ℕ} → o ≡ asked_number row question → o ≡ None → asking row question ≡ []
+unfolding asking
+unasked true question is none = absurd (let z : ◌≡◌ {A = ℕ} 0 1 = cc in omega arith)
+unasked false question is none = refl
+
+-- which is one number more
+pub asked_more : (row : Bool) (question own : ℕ) {o : Option ℕ} → o ≡ asked_number row question → own ≡ elim (is_some o) [ true ↦ 2 | false ↦ 1 ]
+    → own ≡ suc (length (asking row question))
+unfolding asking
+asked_more true question own is e = e ∙ rw is
+asked_more false question own is e = e ∙ rw is
 
 -- the ones of the words are the decided choices
 pub ones-decided : {words : List ℕ} {sides : Decisions} → Decided words sides → ones_in words ≡ decided sides
