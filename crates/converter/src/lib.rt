@@ -2,8 +2,7 @@
 // refused leaves the room lent as it was.
 #![tactic(auto)]
 
-ghost use Rattle.std.specs.Prelude.{◌≡◌, ◌≤◌, length};
-ghost use Rattle.limits.specs.Sizes.{most_book_bytes};
+ghost use Rattle.std.specs.Prelude.{◌≡◌};
 ghost use Rattle.converter.specs.Convert.{laid, convert};
 ghost use Rattle.converter.specs.Scan.{scanned};
 ghost use Rattle.converter.specs.InCode.{after, number_of, place_of};
@@ -16,6 +15,7 @@ use book::read_book;
 use limits::Limits;
 use made::Old;
 use reading::{Asker, Fault, byte};
+use std::fmt;
 
 // Why no book was converted.
 #[derive(Clone, Copy, Debug, PartialEq, Eq)]
@@ -56,9 +56,15 @@ impl Refusal {
     }
 }
 
+// As the programs print it: its number and its place.
+impl fmt::Display for Refusal {
+    fn fmt<W: fmt::Write>(&self, f: &mut fmt::Formatter<W>) -> fmt::Result {
+        write!(f, "{} {}", self.number(), self.place())
+    }
+}
+
 // Lays the new book of an admitted one into the room lent, if it has its size and there is room for all of it: how many bytes it has.
 fn lay(old: Old, room: &mut [u8]) -> Result<usize, Refusal>
-    requires { length old.book.now ≤ most_book_bytes }
     ensures { after result room.new ≡ laid (scanned old.entry.book.now old.entry.ends.now) room.old }
 {
     let made = old.converted();

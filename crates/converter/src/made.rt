@@ -6,6 +6,7 @@ ghost use Rattle.converter.specs.Scan.{spots, item_to, items, front, scanned};
 ghost use Rattle.converter.specs.InCode.{furthest, SpotPut, Put, PutBehind, MadeOf};
 
 use super::put::put_part;
+use expressions::Code;
 use limits::Limits;
 use reading::{byte, number, part_of};
 use writer::put::{put_byte, put_two};
@@ -15,6 +16,7 @@ use writer::put::{put_byte, put_two};
 pub(crate) struct Old<'a> {
     pub book: &'a [u8],
     pub ends: &'a [u16],
+    ghost small: { length book.now ≤ most_book_bytes },
 }
 
 // A new book: how many bytes it has, and its bytes if they are not more than a book has. There is no heap, so an array of a book's size holds them.
@@ -34,13 +36,13 @@ impl Old<'_> {
 
     // Puts what opens at p, up to the next tree's code, and tells its place: a rule to fail for an exempt, a rule as it stands, a branch's code and variable.
     fn put_spot(self, p: usize, made: &mut Made) -> usize
-        requires { (length self.book.now ≤ most_book_bytes) × (p ≤ furthest) × (made.old.size ≤ 2 * furthest) }
+        requires { (p ≤ furthest) × (made.old.size ≤ 2 * furthest) }
         ensures { SpotPut self.entry.book.now self.entry.ends.now p made.old result made.new }
     {
         match byte(self.book, p) {
             0 => {
                 put_byte(&mut made.bytes, made.size, 1);
-                put_byte(&mut made.bytes, made.size + 1, 3);
+                put_byte(&mut made.bytes, made.size + 1, Code::Fail as u8);
                 made.size += 2;
                 p + 1
             }
@@ -63,7 +65,7 @@ impl Old<'_> {
 
     // Puts the trees from p to e.
     fn put_spots(self, e: usize, p: usize, made: &mut Made)
-        requires { (length self.book.now ≤ most_book_bytes) × (p ≤ e) × (e ≤ 4 * most_book_bytes) × (made.old.size ≤ furthest + 2) }
+        requires { (p ≤ e) × (e ≤ 4 * most_book_bytes) × (made.old.size ≤ furthest + 2) }
         ensures { PutBehind (spots self.entry.book.now self.entry.ends.now e p) made.old (made.old.size + 9 * most_book_bytes) made.new }
     {
         let mut at = p;
@@ -75,7 +77,7 @@ impl Old<'_> {
 
     // Puts the tree whose length stands at p, behind its own length.
     fn put_item(self, e: usize, p: usize, made: &mut Made)
-        requires { (length self.book.now ≤ most_book_bytes) × (p + 2 ≤ e) × (e ≤ 4 * most_book_bytes) × (made.old.size ≤ furthest) }
+        requires { (p + 2 ≤ e) × (e ≤ 4 * most_book_bytes) × (made.old.size ≤ furthest) }
         ensures { PutBehind (item_to self.entry.book.now self.entry.ends.now e p) made.old (made.old.size + 10 * most_book_bytes) made.new }
     {
         let q = made.size;
@@ -87,7 +89,7 @@ impl Old<'_> {
 
     // Puts the trees whose lengths stand from p on.
     fn put_items(self, p: usize, made: &mut Made)
-        requires { (length self.book.now ≤ most_book_bytes) × (p ≤ 4 * most_book_bytes) × (made.old.size ≤ 2 * most_book_bytes) }
+        requires { (p ≤ 4 * most_book_bytes) × (made.old.size ≤ 2 * most_book_bytes) }
         ensures { PutBehind (items self.entry.book.now self.entry.ends.now p) made.old furthest made.new }
     {
         let mut at = p;
@@ -101,7 +103,6 @@ impl Old<'_> {
 
     // The version byte, and the symbol part as it stands.
     fn front(self) -> Made
-        requires { length self.book.now ≤ most_book_bytes }
         ensures { Put (front self.entry.book.now) (replicate most_book_bytes 0) 0 (2 + most_book_bytes) result.size result.bytes }
     {
         let part = part_of(self.book, 1, 3 + number(self.book, 1));
@@ -116,7 +117,6 @@ impl Old<'_> {
 
     // The new book of an admitted one, with the ends that the reader noted.
     pub(crate) fn converted(self) -> Made
-        requires { length self.book.now ≤ most_book_bytes }
         ensures { MadeOf (scanned self.entry.book.now self.entry.ends.now) result }
     {
         let mut made = self.front();

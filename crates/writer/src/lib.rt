@@ -12,6 +12,7 @@ mod rows;
 mod trees;
 
 use made::made_of;
+use std::fmt;
 
 // Why no book was written.
 #[derive(Clone, Copy, Debug, PartialEq, Eq)]
@@ -41,6 +42,13 @@ impl Refusal {
             Refusal::NotABook { row } => row,
             Refusal::NoRoom => 0,
         }
+    }
+}
+
+// As the programs print it: its number and the row at fault.
+impl fmt::Display for Refusal {
+    fn fmt<W: fmt::Write>(&self, f: &mut fmt::Formatter<W>) -> fmt::Result {
+        write!(f, "{} {}", self.number(), self.row())
     }
 }
 

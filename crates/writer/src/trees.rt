@@ -10,6 +10,7 @@ ghost use Rattle.writer.specs.InCode.{next_by, due_by, Put, PutIfFits};
 use super::made::Made;
 use super::put::{put_byte, put_two};
 use super::rows::behind_row;
+use expressions::Code;
 
 // The length of a row with numbers missing: it runs past every book.
 const PAST_EVERY_BOOK: usize = 65535;
@@ -64,23 +65,26 @@ fn behind_expr(others: usize, n: u16) -> Due
     requires { others < 4294967296 }
     ensures { due_by result ≡ behind_expr others n }
 {
-    match n {
-        0 => Due {
+    if n == Code::Variable as u16 {
+        Due {
             next: Next::Variable,
             expressions: others,
-        },
-        1 => Due {
+        }
+    } else if n == Code::Apply as u16 {
+        Due {
             next: Next::Symbol,
             expressions: others,
-        },
-        2 => Due {
+        }
+    } else if n == Code::Choice as u16 {
+        Due {
             next: Next::Code,
             expressions: 2 + others,
-        },
-        _ => Due {
+        }
+    } else {
+        Due {
             next: Next::Code,
             expressions: others,
-        },
+        }
     }
 }
 
