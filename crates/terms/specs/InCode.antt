@@ -1,5 +1,5 @@
 -- What the code's answers mean in the words of the definitions.
-use Rattle.std.specs.Prelude.{List, ℕ, drop}
+use Rattle.std.specs.Prelude.{Option, Some, None, List, ℕ, ◌+◌, drop}
 use Rattle.tagged.specs.Lines.{Line, heading, broader, narrower, other}
 use Rattle.terms.specs.declared.lines.Form.{Form}
 use Rattle.terms.specs.declared.lines.Form.TheVariants.{Heading, Broader, Narrower, Other}
@@ -17,3 +17,8 @@ kind_told Heading = 1
 kind_told Broader = 2
 kind_told Narrower = 3
 kind_told Other = 0
+
+-- what a line is worth, where it adds so many headings, or is not of this form
+abbrev pub worth_told : Option ℕ → ℕ
+worth_told None = 0
+worth_told (Some added) = added + 1

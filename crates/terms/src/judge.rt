@@ -4,7 +4,7 @@ ghost use Rattle.tagged.specs.Lines.{lines_of};
 ghost use Rattle.tagged.specs.Listing.{broader_in};
 ghost use Rattle.terms.specs.TermRows.{JudgedAs};
 ghost use Rattle.terms.specs.Places.{bytes_of};
-ghost use Rattle.terms.specs.InCode.{kind_told};
+ghost use Rattle.terms.specs.InCode.{kind_told, worth_told};
 ghost use Rattle.terms.specs.Blocks.{hash_of, table_size, name_of, Inside, Chained, Sized, Rows, Cleared, Table, Sought, Entered};
 ghost use Rattle.terms.specs.Blocks.{Begins, FilledAs, KnownBy, KnownFirst, until_told};
 ghost use Rattle.terms.specs.Judging.{kind_of, worth, FormsAs, line_told, twice_from, name_at, line_at};
@@ -29,15 +29,15 @@ fn form_at(s: &[u8], at: usize) -> Form
     form_of(s, at, line_end(s, at))
 }
 
-// Behind so many headings: 0 a line not of this form, 1 a BT or NT, 2 a heading.
-fn worth_at(s: &[u8], at: usize, headings: usize) -> usize
+// How many headings the line at `at` adds to so many; none is told of a line not of this form, and of a BT or NT under no heading.
+fn added_at(s: &[u8], at: usize, headings: usize) -> Option<usize>
     requires { at ≤ length s.now }
-    ensures { result ≡ worth headings (line_at s.now at) }
+    ensures { worth_told result ≡ worth headings (line_at s.now at) }
 {
     match form_at(s, at) {
-        Form::Heading => 2,
-        Form::Other => 0,
-        Form::Broader | Form::Narrower => { if headings == 0 { 0 } else { 1 } }
+        Form::Heading => Some(1),
+        Form::Other => None,
+        Form::Broader | Form::Narrower => { if headings == 0 { None } else { Some(0) } }
     }
 }
 
@@ -57,14 +57,13 @@ fn forms_of(s: &[u8]) -> Forms
                 headings: None,
             };
         }
-        let w = worth_at(s, at, headings);
-        if w == 0 {
+        let Some(added) = added_at(s, at, headings) else {
             return Forms {
                 lines,
                 headings: None,
             };
-        }
-        headings += w - 1;
+        };
+        headings += added;
         lines += 1;
         at = to + 1;
     }
@@ -88,19 +87,13 @@ enum Filled {
     Over,
 }
 
-fn wide(b: u8) -> usize
-    ensures { (result ≡ b) × (result < 256) }
-{
-    b as usize
-}
-
 fn hash_of(s: &[u8], from: usize, until: usize) -> usize
     requires { until ≤ length s.now }
     ensures { (result ≡ hash_of (bytes_of s.now from until)) × (result < table_size) }
 {
     let mut h: usize = 0;
     for i in from..until {
-        h = (h * 257 + wide(s[i])) % 4294967291;
+        h = (h * 257 + usize::from(s[i])) % 4294967291;
     }
     h % TABLE
 }
@@ -113,34 +106,6 @@ fn clear(last: &mut [usize; TABLE])
     *last = [0usize; TABLE];
 }
 
-// The name from `at` to `to` is one of the first `from` entries: it is sought down the chain of its hash.
-fn in_table(
-    s: &[u8],
-    place: &[usize; TABLE],
-    before: &[usize; TABLE],
-    from: usize,
-    at: usize,
-    to: usize,
-) -> bool
-    requires inside { Inside s.now place.now from }
-    requires chained { Chained (λ (k : ℕ). hash_of (name_of s.now place.now k)) before.now from }
-    requires same_hash { 0 < from → hash_of (name_of s.now place.now (from - 1)) ≡ hash_of (bytes_of s.now at to) }
-    requires bounds { (from ≤ table_size) × (to ≤ length s.now) }
-    ensures { Sought result s.now place.now from (bytes_of s.now at to) }
-{
-    let mut i = from;
-    // a hop: the next entry is the one that this one names
-    while i != 0 {
-        let p = place[i - 1];
-        let end = line_end(s, p);
-        if same(s, at, to, p, end) {
-            return true;
-        }
-        i = before[i - 1];
-    }
-    false
-}
-
 // What a line is to a table of headings: it gives one of them again, a new one, or none.
 #[derive(Clone, Copy)]
 enum Entry {
@@ -149,129 +114,133 @@ enum Entry {
     NoHeading,
 }
 
-// The line at `at` is looked up in a table of `count` entries, and its heading entered if it is not there.
-fn enter(
-    s: &[u8],
-    at: usize,
-    count: usize,
-    place: &mut [usize; TABLE],
-    before: &mut [usize; TABLE],
-    last: &mut [usize; TABLE],
-) -> Entry
-    requires table { Table s.now place.old before.old last.old count }
-    requires bounds { (at ≤ length s.now) × (count < table_size) }
-    ensures { Entered result s.now at count place.old before.old last.old
-        place.new before.new last.new }
-{
-    let Form::Heading = form_at(s, at) else {
-        return Entry::NoHeading;
-    };
-    let to = line_end(s, at);
-    let h = hash_of(s, at, to);
-    let from = last[h];
-    if in_table(s, place, before, from, at, to) {
-        return Entry::Given;
-    }
-    place[count] = at;
-    before[count] = from;
-    last[h] = count + 1;
-    Entry::New
+// Headings, found by their names: the place of each, the entry before it whose name has the same hash, and for each hash the last entry.
+// Entries are named by their numbers counted from 1; 0 is none.
+#[derive(Drop)]
+struct Names {
+    // Rows side by side: `last` goes by hashes, and the clauses and the lemmas under them are said of each row alone.
+    place: [usize; TABLE],
+    before: [usize; TABLE],
+    last: [usize; TABLE],
 }
 
-// The table is filled with the headings from line `line` at `at` on, up to line `until`: each is looked up and, if it is new, entered.
-fn fill(
-    s: &[u8],
-    at: usize,
-    line: usize,
-    until: usize,
-    place: &mut [usize; TABLE],
-    before: &mut [usize; TABLE],
-    last: &mut [usize; TABLE],
-) -> Filled
-    requires begins { Begins s.now at line }
-    requires rows { Rows place.old before.old last.old }
-    ensures { FilledAs result s.now at line until place.new before.new last.new }
-{
-    clear(last);
-    let mut p = at;
-    let mut n = line;
-    let mut count: usize = 0;
-    // a hop: the next line opens behind this one's end
-    while p < s.len() {
-        let to = line_end(s, p);
-        if s.len() <= to {
-            return Filled::Over;
+impl Names {
+    // The name from `at` to `to` is one of the first `from` entries: it is sought down the chain of its hash.
+    fn in_table(&self, s: &[u8], from: usize, at: usize, to: usize) -> bool
+        requires inside { Inside s.now self.now.place from }
+        requires chained { Chained (λ (k : ℕ). hash_of (name_of s.now self.now.place k)) self.now.before from }
+        requires same_hash { 0 < from → hash_of (name_of s.now self.now.place (from - 1)) ≡ hash_of (bytes_of s.now at to) }
+        requires bounds { (from ≤ table_size) × (to ≤ length s.now) }
+        ensures { Sought result s.now self.now.place from (bytes_of s.now at to) }
+    {
+        let mut i = from;
+        // a hop: the next entry is the one that this one names
+        while i != 0 {
+            let p = self.place[i - 1];
+            let end = line_end(s, p);
+            if same(s, at, to, p, end) {
+                return true;
+            }
+            i = self.before[i - 1];
         }
-        if until < n {
-            return Filled::Over;
-        }
-        if count == TABLE {
-            return Filled::Full { at: p, line: n };
-        }
-        match enter(s, p, count, place, before, last) {
-            Entry::Given => return Filled::Twice(n),
-            Entry::New => count += 1,
-            Entry::NoHeading => {}
-        }
-        n += 1;
-        p = to + 1;
+        false
     }
-    Filled::Over
-}
 
-// The line at `at` gives one of a full table's headings.
-fn known_at(
-    s: &[u8],
-    at: usize,
-    place: &[usize; TABLE],
-    before: &[usize; TABLE],
-    last: &[usize; TABLE],
-) -> bool
-    requires table { Table s.now place.now before.now last.now table_size }
-    requires inside { at ≤ length s.now }
-    ensures { KnownBy result s.now place.now at }
-{
-    let Form::Heading = form_at(s, at) else {
-        return false;
-    };
-    let to = line_end(s, at);
-    let h = hash_of(s, at, to);
-    let from = last[h];
-    in_table(s, place, before, from, at, to)
-}
-
-// The first line from line `line` at `at` on, up to line `until`, that gives one of a full table's headings.
-fn first_known(
-    s: &[u8],
-    at: usize,
-    line: usize,
-    until: usize,
-    place: &[usize; TABLE],
-    before: &[usize; TABLE],
-    last: &[usize; TABLE],
-) -> Option<usize>
-    requires begins { Begins s.now at line }
-    requires table { Table s.now place.now before.now last.now table_size }
-    ensures { KnownFirst s.now place.now line until result }
-{
-    let mut p = at;
-    let mut n = line;
-    // a hop: the next line opens behind this one's end
-    while p < s.len() {
-        let to = line_end(s, p);
-        if s.len() <= to {
-            return None;
+    // The line at `at` is looked up in a table of `count` entries, and its heading entered if it is not there.
+    fn enter(&mut self, s: &[u8], at: usize, count: usize) -> Entry
+        requires table { Table s.now self.old.place self.old.before self.old.last count }
+        requires bounds { (at ≤ length s.now) × (count < table_size) }
+        ensures { Entered result s.now at count self.old.place self.old.before self.old.last
+            self.new.place self.new.before self.new.last }
+    {
+        let Form::Heading = form_at(s, at) else {
+            return Entry::NoHeading;
+        };
+        let to = line_end(s, at);
+        let h = hash_of(s, at, to);
+        let from = self.last[h];
+        if self.in_table(s, from, at, to) {
+            return Entry::Given;
         }
-        if until < n {
-            return None;
-        }
-        if known_at(s, p, place, before, last) {
-            return Some(n);
-        }
-        n += 1;
-        p = to + 1;
+        self.place[count] = at;
+        self.before[count] = from;
+        self.last[h] = count + 1;
+        Entry::New
     }
-    None
+
+    // The table is filled with the headings from line `line` at `at` on, up to line `until`: each is looked up and, if it is new, entered.
+    fn fill(&mut self, s: &[u8], at: usize, line: usize, until: usize) -> Filled
+        requires begins { Begins s.now at line }
+        requires rows { Rows self.old.place self.old.before self.old.last }
+        ensures { FilledAs result s.now at line until self.new.place self.new.before self.new.last }
+    {
+        self.last = [0usize; TABLE];
+        let mut p = at;
+        let mut n = line;
+        let mut count: usize = 0;
+        // a hop: the next line opens behind this one's end
+        while p < s.len() {
+            let to = line_end(s, p);
+            if s.len() <= to {
+                return Filled::Over;
+            }
+            if until < n {
+                return Filled::Over;
+            }
+            if count == TABLE {
+                return Filled::Full { at: p, line: n };
+            }
+            match self.enter(s, p, count) {
+                Entry::Given => return Filled::Twice(n),
+                Entry::New => count += 1,
+                Entry::NoHeading => {}
+            }
+            n += 1;
+            p = to + 1;
+        }
+        Filled::Over
+    }
+
+    // The line at `at` gives one of a full table's headings.
+    fn known_at(&self, s: &[u8], at: usize) -> bool
+        requires table { Table s.now self.now.place self.now.before self.now.last table_size }
+        requires inside { at ≤ length s.now }
+        ensures { KnownBy result s.now self.now.place at }
+    {
+        let Form::Heading = form_at(s, at) else {
+            return false;
+        };
+        let to = line_end(s, at);
+        let h = hash_of(s, at, to);
+        let from = self.last[h];
+        self.in_table(s, from, at, to)
+    }
+
+    // The first line from line `line` at `at` on, up to line `until`, that gives one of a full table's headings.
+    fn first_known(&self, s: &[u8], at: usize, line: usize, until: usize) -> Option<usize>
+        requires begins { Begins s.now at line }
+        requires table { Table s.now self.now.place self.now.before self.now.last table_size }
+        ensures { KnownFirst s.now self.now.place line until result }
+    {
+        let mut p = at;
+        let mut n = line;
+        // a hop: the next line opens behind this one's end
+        while p < s.len() {
+            let to = line_end(s, p);
+            if s.len() <= to {
+                return None;
+            }
+            if until < n {
+                return None;
+            }
+            if self.known_at(s, p) {
+                return Some(n);
+            }
+            n += 1;
+            p = to + 1;
+        }
+        None
+    }
 }
 
 // The lines that are still of interest: those above the first one found so far.
@@ -286,20 +255,22 @@ fn until_of(best: Option<usize>, lines: usize) -> usize
 fn first_twice(s: &[u8], lines: usize) -> Option<usize>
     ensures { result ≡ line_told (twice_from [] 1 (take lines (lines_of s.now))) }
 {
-    let mut place = [0usize; TABLE];
-    let mut before = [0usize; TABLE];
-    let mut last = [0usize; TABLE];
+    let mut names = Names {
+        place: [0usize; TABLE],
+        before: [0usize; TABLE],
+        last: [0usize; TABLE],
+    };
     let mut best = None;
     let mut at: usize = 0;
     let mut line: usize = 1;
     // a hop: the next block begins where this one was full
     while at < s.len() {
         let until = until_of(best, lines);
-        match fill(s, at, line, until, &mut place, &mut before, &mut last) {
+        match names.fill(s, at, line, until) {
             Filled::Twice(twice) => return Some(twice),
             Filled::Over => return best,
             Filled::Full { at: next, line: n } => {
-                best = first_known(s, next, n, until, &place, &before, &last).or(best);
+                best = names.first_known(s, next, n, until).or(best);
                 at = next;
                 line = n;
             }
@@ -383,7 +354,7 @@ fn mix_of(s: &[u8], from: usize, until: usize) -> usize
 {
     let mut h: usize = 0;
     for i in from..until {
-        h = (h * 31 + wide(s[i])) % 1048576;
+        h = (h * 31 + usize::from(s[i])) % 1048576;
     }
     h
 }

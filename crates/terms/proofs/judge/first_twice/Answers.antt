@@ -45,7 +45,7 @@ loop-at-preserved c =
     let until = c.until_of-until in
     let full = c.in-Full.ensures in
     let known = c.first_known in
-    let best = best-on a.s.now a.lines (loop.line - 1) until.result c.in-Full.n c.fill.new.place c.fill.new.before c.fill.new.last full.0
+    let best = best-on a.s.now a.lines (loop.line - 1) until.result c.in-Full.n c.fill.new.self.place c.fill.new.self.before c.fill.new.self.last full.0
     (omega (arith, full.3)) full.1.some loop.best known.result loop.invariant.2 until.ensures known.ensures in
     (full.1, full.0.table.sized, rw c.or-best.ensures best)
 

@@ -10,8 +10,8 @@ pub loop-i-preserved : goal.loop-i-preserved
 loop-i-preserved c =
     let loop = c.loop-i in
     let a = c.args in
-    let w = c.wide.ensures in
-    (omega arith, rw w.0 (loop.invariant.1 ∙ hash_more a.s.now loop.h loop.i a.until (omega arith) (omega arith)))
+    let w = c.from.ensures in
+    (omega arith, rw w (loop.invariant.1 ∙ hash_more a.s.now loop.h loop.i a.until (omega arith) (omega arith)))
 
 pub returns : goal.returns
 unfolding hash_of

@@ -6,7 +6,7 @@ use lib.ListN.{get_or}
 use Rattle.terms.specs.Places.{bytes_of}
 use Rattle.terms.proofs.JudgeWays.{end-within}
 use Rattle.terms.proofs.TwiceChains.{seek_own, seek_none}
-use Rattle.terms.proofs.judge.in_table.Goals as goal
+use Rattle.terms.proofs.judge.Names.in_table.Goals as goal
 
 pub loop-i-init : goal.loop-i-init
 loop-i-init c =
@@ -19,7 +19,7 @@ same-requires c =
     let i = c.loop-i.i in
     let end = c.line_end-end.ensures in
     let inside = c.requires.inside (i - 1) (omega (arith, c.loop-i.invariant.0, c.loop-i-test.true)) in
-    let within = end-within s (get_or a.place.now (i - 1) 0) inside in
+    let within = end-within s (get_or a.self.now.place (i - 1) 0) inside in
     (c.requires.bounds.1, omega arith)
 
 pub returns-then-same : goal.returns-then-same
@@ -45,8 +45,8 @@ loop-i-preserved c =
     let name = bytes_of s a.at a.to in
     let differs = rw end at (sym c.same.ensures ∙ c.if-same.false) in (
       omega (arith, chain.low (loop.i - 1) (omega arith)),
-      seek_own s a.place.now a.before.now a.from chain name loop.i some within (loop.invariant.1 some) differs,
-      seek_none s a.place.now a.before.now a.from chain name loop.i some within (loop.invariant.1 some) differs loop.invariant.2,
+      seek_own s a.self.now.place a.self.now.before a.from chain name loop.i some within (loop.invariant.1 some) differs,
+      seek_none s a.self.now.place a.self.now.before a.from chain name loop.i some within (loop.invariant.1 some) differs loop.invariant.2,
     )
 
 pub returns : goal.returns

@@ -3,7 +3,7 @@ use mathlib.Core.Path.{sym}
 use native.Mathlib.Omega.{arith}
 use Rattle.terms.proofs.JudgeWays.{end-within}
 use Rattle.terms.proofs.TwiceChains.{asked, entered_given, entered_new}
-use Rattle.terms.proofs.judge.enter.Goals as goal
+use Rattle.terms.proofs.judge.Names.enter.Goals as goal
 
 pub hash_of-h-requires : goal.hash_of-h-requires
 hash_of-h-requires c =
@@ -18,7 +18,7 @@ in_table-requires c =
     let s = a.s.now in
     let to = c.line_end-to in
     let within = end-within s a.at (omega arith) in
-    let sought = asked s a.place.now a.before.now a.last.now a.count c.requires.table a.at to.result c.hash_of-h.result to.ensures c.hash_of-h.ensures.0
+    let sought = asked s a.self.now.place a.self.now.before a.self.now.last a.count c.requires.table a.at to.result c.hash_of-h.result to.ensures c.hash_of-h.ensures.0
     (omega (arith, c.requires.bounds)) (omega (arith, to.ensures)) in
     record { inside = sought.0; chained = sought.1.0; same_hash = sought.1.1.0; bounds = sought.1.1.1 }
 
@@ -29,7 +29,7 @@ returns-then-in_table c =
     let to = c.line_end-to in
     let h = c.hash_of-h in
     let found = c.in_table in
-    entered_given s a.place.now a.before.now a.last.now a.count c.requires.table a.at to.result h.result to.ensures h.ensures.0
+    entered_given s a.self.now.place a.self.now.before a.self.now.last a.count c.requires.table a.at to.result h.result to.ensures h.ensures.0
     (sym c.in-Heading.ensures) found.result found.ensures c.if-in_table.true
 
 pub returns : goal.returns
@@ -39,5 +39,5 @@ returns c =
     let to = c.line_end-to in
     let h = c.hash_of-h in
     let found = c.in_table in
-    entered_new s a.place.now a.before.now a.last.now a.count c.requires.table a.at to.result h.result to.ensures h.ensures.0
+    entered_new s a.self.now.place a.self.now.before a.self.now.last a.count c.requires.table a.at to.result h.result to.ensures h.ensures.0
     (sym c.in-Heading.ensures) found.result found.ensures c.if-in_table.false
