@@ -1,11 +1,11 @@
 -- Lines met by their mirrors: what a line changes while all lines are looked up among those noted.
-use mathlib.Core.Bool.{true, false, or-true}
+use mathlib.Core.Bool.{Bool, true, false, or-true}
 use mathlib.Core.Path.{◌≡◌, sym, ap, ◌∙◌}
 use mathlib.Core.List.{List, [], ◌∷◌}
 use Prim.Native.Nat.{ℕ, ◌+◌, ◌≤◌, ◌<◌}
 use native.Mathlib.Omega.{arith}
 use native.Mathlib.Decide.{ℕ_discrete, dec_lt}
-use lib.ListN.{length, get_or, set, length-set, replicate, length-replicate, get_or-replicate, get_or-eq_default}
+use lib.ListN.{length, get_or, set, replicate, length-replicate, get_or-replicate, get_or-eq_default}
 use lib.Seq.{get_or-set_other}
 use Rattle.tagged.specs.Lines.{Name, Line, lines_of}
 use Rattle.terms.specs.Places.{end_of}
@@ -46,18 +46,18 @@ module _ (s : List ℕ) (g at : ℕ) (so : Behind s g at) (inside : end_of s at 
 
 -- ---- entries met
 
-zero-all : (n k : ℕ) → Dec (k < n) → ◌≡◌ {A = ℕ} (get_or (replicate {A = ℕ} n 0) k 0) 0
-zero-all n k (yes less) = get_or-replicate {A = ℕ} n k 0 0 less
-zero-all n k (no over) = get_or-eq_default (replicate {A = ℕ} n 0) 0 (omega (arith, length-replicate {A = ℕ} n 0))
+false-all : (n k : ℕ) → Dec (k < n) → get_or (replicate n false) k false ≡ false
+false-all n k (yes less) = get_or-replicate n k false false less
+false-all n k (no over) = get_or-eq_default (replicate n false) false (omega (arith, length-replicate n false))
 
 module _ (s place head : List ℕ) where
-  pub met_start : Met s place head (replicate {A = ℕ} 8192 0)
-  met_start = (length-replicate {A = ℕ} 8192 0, λ k is. absurd (omega (arith, zero-all 8192 k (dec_lt k 8192))))
+  pub met_start : Met s place head (replicate 8192 false)
+  met_start k is = never (sym (false-all 8192 k (dec_lt k 8192)) ∙ is)
 
-  pub met-more : (met : List ℕ) → Met s place head met → (k : ℕ) → mirror_in (name_at s (get_or head k 0)) (line_at s (get_or place k 0)) [] (lines_of s) ≡ true
-      → Met s place head (set met k 1)
-  met-more met so k has = (length-set met k 1 ∙ so.0, λ j is. by j is (ℕ_discrete j k))
+  pub met-more : (met : List Bool) → Met s place head met → (k : ℕ) → mirror_in (name_at s (get_or head k 0)) (line_at s (get_or place k 0)) [] (lines_of s) ≡ true
+      → Met s place head (set met k true)
+  met-more met so k has j is = by (ℕ_discrete j k)
     where
-      by : (j : ℕ) → get_or (set met k 1) j 0 ≡ 1 → Dec (j ≡ k) → mirror_in (name_at s (get_or head j 0)) (line_at s (get_or place j 0)) [] (lines_of s) ≡ true
-      by j is (yes e) = rw e has
-      by j is (no differs) = so.1 j (sym (get_or-set_other met k j 1 0 differs) ∙ is)
+      by : Dec (j ≡ k) → mirror_in (name_at s (get_or head j 0)) (line_at s (get_or place j 0)) [] (lines_of s) ≡ true
+      by (yes e) = rw e has
+      by (no differs) = so j (sym (get_or-set_other met k j true false differs) ∙ is)

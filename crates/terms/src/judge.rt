@@ -5,7 +5,7 @@ ghost use Rattle.tagged.specs.Listing.{broader_in};
 ghost use Rattle.terms.specs.TermRows.{JudgedAs};
 ghost use Rattle.terms.specs.Places.{bytes_of};
 ghost use Rattle.terms.specs.InCode.{kind_told, worth_told};
-ghost use Rattle.terms.specs.Blocks.{hash_of, table_size, name_of, Inside, Chained, Sized, Rows, Cleared, Table, Sought, Entered};
+ghost use Rattle.terms.specs.Blocks.{hash_of, table_size, name_of, Inside, Chained, Rows, Table, Sought, Entered};
 ghost use Rattle.terms.specs.Blocks.{Begins, FilledAs, KnownBy, KnownFirst, until_told};
 ghost use Rattle.terms.specs.Judging.{kind_of, worth, FormsAs, line_told, twice_from, name_at, line_at};
 ghost use Rattle.terms.specs.Judging.{mirror_lines, next_heading, mirror_in, wants, unmirrored_from};
@@ -98,14 +98,6 @@ fn hash_of(s: &[u8], from: usize, until: usize) -> usize
     h % TABLE
 }
 
-// No name has been entered.
-fn clear(last: &mut [usize; TABLE])
-    requires { Sized last.old }
-    ensures { Cleared last.new }
-{
-    *last = [0usize; TABLE];
-}
-
 // What a line is to a table of headings: it gives one of them again, a new one, or none.
 #[derive(Clone, Copy)]
 enum Entry {
@@ -118,7 +110,7 @@ enum Entry {
 // Entries are named by their numbers counted from 1; 0 is none.
 #[derive(Drop)]
 struct Names {
-    // Rows side by side: `last` goes by hashes, and the clauses and the lemmas under them are said of each row alone.
+    // Rows side by side, of fixed size: an array of structs is no plainer, as `last` goes by hashes and Inside, Chained and Headed say each of one row.
     place: [usize; TABLE],
     before: [usize; TABLE],
     last: [usize; TABLE],
@@ -359,271 +351,225 @@ fn mix_of(s: &[u8], from: usize, until: usize) -> usize
     h
 }
 
-// By the first letter alone: 1 a BT, 2 an NT, 0 a heading's own line.
-fn side_at(s: &[u8], p: usize) -> usize
+// Which of two mirrors a line is.
+#[derive(Clone, Copy)]
+enum Side {
+    Neither,
+    Broader,
+    Narrower,
+}
+
+impl Side {
+    // That of its mirror.
+    fn other(self) -> Side {
+        match self {
+            Side::Neither => Side::Neither,
+            Side::Broader => Side::Narrower,
+            Side::Narrower => Side::Broader,
+        }
+    }
+}
+
+// By the first letter alone.
+fn side_at(s: &[u8], p: usize) -> Side
     requires { p ≤ length s.now }
-    ensures { result < 3 }
 {
     if s.len() <= p + 2 {
-        return 0;
+        return Side::Neither;
     }
-    if s[p] != 32 {
-        return 0;
+    if s[p] != b' ' {
+        return Side::Neither;
     }
-    if s[p + 2] == 66 {
-        return 1;
+    if s[p + 2] == b'B' {
+        return Side::Broader;
     }
-    2
+    Side::Narrower
 }
 
 // The key of a BT or NT, by the name of its heading, the name in it, and which of the two it is. Its mirror has the names exchanged, and the other side.
-fn key_of(s: &[u8], from: usize, to: usize, start: usize, end: usize, side: usize) -> usize
-    requires { (to ≤ length s.now) × (end ≤ length s.now) × (side ≤ 3) }
+fn key_of(s: &[u8], from: usize, to: usize, start: usize, end: usize, side: Side) -> usize
+    requires { (to ≤ length s.now) × (end ≤ length s.now) }
     ensures { result < table_size }
 {
     let first = mix_of(s, from, to);
     let second = mix_of(s, start, end);
-    (first * 7919 + second + side) % TABLE
+    (first * 7919 + second + side as usize) % TABLE
 }
 
-// The line at p, under the heading at g, is noted as entry k, and linked to the last entry whose mirror has the same key.
-fn note_line(
-    s: &[u8],
-    g: usize,
-    p: usize,
-    k: usize,
-    place: &mut [usize; TABLE],
-    head: &mut [usize; TABLE],
-    before: &mut [usize; TABLE],
-    last: &mut [usize; TABLE],
-)
-    requires { (g ≤ length s.now) × (p ≤ length s.now) × (k < table_size) }
-{
-    let p_end = line_end(s, p);
-    let g_end = line_end(s, g);
-    let side = side_at(s, p);
-    let key = key_of(s, p + 5, p_end, g, g_end, 3 - side);
-    place[k] = p;
-    head[k] = g;
-    before[k] = last[key];
-    last[key] = k + 1;
+// Lines noted, to be met by their mirrors: the place of each, that of its heading, the entry before it whose mirror has the same key, and for
+// each key the last entry. Entries are named by their numbers counted from 1 in the two rows behind; 0 is none.
+#[derive(Drop)]
+struct Noted {
+    // Rows side by side, of fixed size, as those of Names: `last` goes by keys, and Met says of `place` and `head` alone.
+    place: [usize; TABLE],
+    head: [usize; TABLE],
+    before: [usize; TABLE],
+    last: [usize; TABLE],
 }
 
-// The lines from `at` on, the first of which stands under the heading at h, are noted, up to TABLE of them.
-fn note_lines(
-    s: &[u8],
-    h: usize,
-    at: usize,
-    place: &mut [usize; TABLE],
-    head: &mut [usize; TABLE],
-    before: &mut [usize; TABLE],
-    last: &mut [usize; TABLE],
-)
-    requires { (h ≤ length s.now) × (at ≤ length s.now) }
-{
-    let mut g = h;
-    let mut p = at;
-    let mut k: usize = 0;
-    // a hop: the next line opens behind this one's end
-    while p < s.len() {
-        let to = line_end(s, p);
-        if s.len() <= to {
+impl Noted {
+    // The line at p, under the heading at g, is noted as entry k, and linked to the last entry whose mirror has the same key.
+    fn note_line(&mut self, s: &[u8], g: usize, p: usize, k: usize)
+        requires { (g ≤ length s.now) × (p ≤ length s.now) × (k < table_size) }
+    {
+        let p_end = line_end(s, p);
+        let g_end = line_end(s, g);
+        let side = side_at(s, p);
+        let key = key_of(s, p + 5, p_end, g, g_end, side.other());
+        self.place[k] = p;
+        self.head[k] = g;
+        self.before[k] = self.last[key];
+        self.last[key] = k + 1;
+    }
+
+    // The lines from `at` on, the first of which stands under the heading at h, are noted, up to TABLE of them.
+    fn note_lines(&mut self, s: &[u8], h: usize, at: usize)
+        requires { (h ≤ length s.now) × (at ≤ length s.now) }
+    {
+        let mut g = h;
+        let mut p = at;
+        let mut k: usize = 0;
+        // a hop: the next line opens behind this one's end
+        while p < s.len() {
+            let to = line_end(s, p);
+            if s.len() <= to {
+                return;
+            }
+            if TABLE <= k {
+                return;
+            }
+            self.note_line(s, g, p, k);
+            g = next_heading(s, g, p);
+            k += 1;
+            p = to + 1;
+        }
+    }
+
+    // Entry k is met if the line at q, under the heading at g, is its mirror. True if it was met before: so were then all those like it.
+    fn meet_entry(&self, s: &[u8], g: usize, q: usize, k: usize, met: &mut [bool; TABLE]) -> bool
+        requires under { Under s.now g q }
+        requires mirrored { Met s.now self.now.place self.now.head met.old }
+        requires entry { k < table_size }
+        ensures { Met s.now self.now.place self.now.head met.new }
+    {
+        let p = self.place[k];
+        let h = self.head[k];
+        if s.len() < p {
+            return false;
+        }
+        if s.len() < h {
+            return false;
+        }
+        if is_mirror(s, h, p, g, q) {
+            if met[k] {
+                return true;
+            }
+            met[k] = true;
+        }
+        false
+    }
+
+    // The entries whose mirror is the line at q, under the heading at g, are met: they are sought down the chain of its key.
+    fn meet_line(&self, s: &[u8], g: usize, q: usize, met: &mut [bool; TABLE])
+        requires under { Under s.now g q }
+        requires mirrored { Met s.now self.now.place self.now.head met.old }
+        ensures { Met s.now self.now.place self.now.head met.new }
+    {
+        let side = side_at(s, q);
+        if let Side::Neither = side {
             return;
         }
-        if TABLE <= k {
-            return;
+        let g_end = line_end(s, g);
+        let q_end = line_end(s, q);
+        let key = key_of(s, g, g_end, q + 5, q_end, side);
+        let mut i = self.last[key];
+        // a hop: the next entry is the one that this one names
+        while i != 0 {
+            if TABLE < i {
+                return;
+            }
+            if self.meet_entry(s, g, q, i - 1, met) {
+                return;
+            }
+            let next = self.before[i - 1];
+            if i <= next {
+                return;
+            }
+            i = next;
         }
-        note_line(s, g, p, k, place, head, before, last);
-        g = next_heading(s, g, p);
-        k += 1;
-        p = to + 1;
     }
-}
 
-// Entry k is met if the line at q, under the heading at g, is its mirror. True if it was met before: so were then all those like it.
-fn meet_entry(
-    s: &[u8],
-    g: usize,
-    q: usize,
-    k: usize,
-    place: &[usize; TABLE],
-    head: &[usize; TABLE],
-    met: &mut [usize; TABLE],
-) -> bool
-    requires under { Under s.now g q }
-    requires mirrored { Met s.now place.now head.now met.old }
-    requires entry { k < table_size }
-    ensures { Met s.now place.now head.now met.new }
-{
-    let p = place[k];
-    let h = head[k];
-    if s.len() < p {
-        return false;
-    }
-    if s.len() < h {
-        return false;
-    }
-    if is_mirror(s, h, p, g, q) {
-        if met[k] == 1 {
-            return true;
+    // All lines of the listing: each meets the entries whose mirror it is.
+    fn meet_lines(&self, s: &[u8], met: &mut [bool; TABLE])
+        requires { Met s.now self.now.place self.now.head met.old }
+        ensures { Met s.now self.now.place self.now.head met.new }
+    {
+        let mut g = s.len();
+        let mut at: usize = 0;
+        // a hop: the next line opens behind this one's end
+        while at < s.len() {
+            let to = line_end(s, at);
+            if s.len() <= to {
+                return;
+            }
+            self.meet_line(s, g, at, met);
+            g = next_heading(s, g, at);
+            at = to + 1;
         }
-        met[k] = 1;
-        return false;
     }
-    false
-}
 
-// The entries whose mirror is the line at q, under the heading at g, are met: they are sought down the chain of its key.
-fn meet_line(
-    s: &[u8],
-    g: usize,
-    q: usize,
-    place: &[usize; TABLE],
-    head: &[usize; TABLE],
-    before: &[usize; TABLE],
-    last: &[usize; TABLE],
-    met: &mut [usize; TABLE],
-)
-    requires under { Under s.now g q }
-    requires mirrored { Met s.now place.now head.now met.old }
-    ensures { Met s.now place.now head.now met.new }
-{
-    let side = side_at(s, q);
-    if side == 0 {
-        return;
+    // Entry k is the line at p, under the heading at h.
+    fn is_noted(&self, h: usize, p: usize, k: usize) -> bool
+        ensures { result ≡ true → (k < table_size) × (get_or self.now.place k 0 ≡ p) × (get_or self.now.head k 0 ≡ h) }
+    {
+        k < TABLE && self.place[k] == p && self.head[k] == h
     }
-    let g_end = line_end(s, g);
-    let q_end = line_end(s, q);
-    let key = key_of(s, g, g_end, q + 5, q_end, side);
-    let mut i = last[key];
-    // a hop: the next entry is the one that this one names
-    while i != 0 {
-        if TABLE < i {
-            return;
+
+    // The entry of the line at p, under the heading at h: it is k, or the lines from there on are noted and met anew.
+    fn entry_at(&mut self, s: &[u8], h: usize, p: usize, k: usize, met: &mut [bool; TABLE]) -> usize
+        requires places { (h ≤ length s.now) × (p ≤ length s.now) }
+        requires mirrored { Met s.now self.old.place self.old.head met.old }
+        ensures low { result ≤ k }
+        ensures mirrored { Met s.now self.new.place self.new.head met.new }
+    {
+        if self.is_noted(h, p, k) {
+            return k;
         }
-        if meet_entry(s, g, q, i - 1, place, head, met) {
-            return;
+        *met = [false; TABLE];
+        self.before = [0usize; TABLE];
+        self.last = [0usize; TABLE];
+        self.note_lines(s, h, p);
+        self.meet_lines(s, met);
+        0
+    }
+
+    // Entry k is the line at p, under the heading at h, and it is met.
+    fn is_met(&self, h: usize, p: usize, k: usize, met: &[bool; TABLE]) -> bool
+        ensures { result ≡ true → (get_or self.now.place k 0 ≡ p) × (get_or self.now.head k 0 ≡ h) × (get_or met.now k false ≡ true) }
+    {
+        if self.is_noted(h, p, k) {
+            return met[k];
         }
-        let next = before[i - 1];
-        if i <= next {
-            return;
+        false
+    }
+
+    // The line at p, under the heading at h, is a BT or NT without its mirror. Only one that has not been met is sought among all lines.
+    fn lacks_mirror(&self, s: &[u8], h: usize, p: usize, k: usize, met: &[bool; TABLE]) -> bool
+        requires places { (h ≤ length s.now) × (p ≤ length s.now) }
+        requires mirrored { Met s.now self.now.place self.now.head met.now }
+        ensures { result ≡ wants (lines_of s.now) (name_at s.now h) (line_at s.now p) }
+    {
+        if let Form::Heading | Form::Other = form_at(s, p) {
+            return false;
         }
-        i = next;
-    }
-}
-
-// All lines of the listing: each meets the entries whose mirror it is.
-fn meet_lines(
-    s: &[u8],
-    place: &[usize; TABLE],
-    head: &[usize; TABLE],
-    before: &[usize; TABLE],
-    last: &[usize; TABLE],
-    met: &mut [usize; TABLE],
-)
-    requires { Met s.now place.now head.now met.old }
-    ensures { Met s.now place.now head.now met.new }
-{
-    let mut g = s.len();
-    let mut at: usize = 0;
-    // a hop: the next line opens behind this one's end
-    while at < s.len() {
-        let to = line_end(s, at);
-        if s.len() <= to {
-            return;
+        if self.is_met(h, p, k, met) {
+            return false;
         }
-        meet_line(s, g, at, place, head, before, last, met);
-        g = next_heading(s, g, at);
-        at = to + 1;
-    }
-}
-
-// Entry k is the line at p, under the heading at h.
-fn is_noted(h: usize, p: usize, k: usize, place: &[usize; TABLE], head: &[usize; TABLE]) -> bool
-    ensures { result ≡ true → (k < table_size) × (get_or place.now k 0 ≡ p) × (get_or head.now k 0 ≡ h) }
-{
-    if TABLE <= k {
-        return false;
-    }
-    if place[k] != p {
-        return false;
-    }
-    if head[k] != h {
-        return false;
-    }
-    true
-}
-
-// The entry of the line at p, under the heading at h: it is k, or the lines from there on are noted and met anew.
-fn entry_at(
-    s: &[u8],
-    h: usize,
-    p: usize,
-    k: usize,
-    place: &mut [usize; TABLE],
-    head: &mut [usize; TABLE],
-    met: &mut [usize; TABLE],
-) -> usize
-    requires places { (h ≤ length s.now) × (p ≤ length s.now) }
-    requires mirrored { Met s.now place.old head.old met.old }
-    ensures low { result ≤ k }
-    ensures mirrored { Met s.now place.new head.new met.new }
-{
-    if is_noted(h, p, k, place, head) {
-        return k;
-    }
-    let mut before = [0usize; TABLE];
-    let mut last = [0usize; TABLE];
-    clear(met);
-    note_lines(s, h, p, place, head, &mut before, &mut last);
-    meet_lines(s, place, head, &before, &last, met);
-    0
-}
-
-// Entry k is the line at p, under the heading at h, and it is met.
-fn is_met(
-    h: usize,
-    p: usize,
-    k: usize,
-    place: &[usize; TABLE],
-    head: &[usize; TABLE],
-    met: &[usize; TABLE],
-) -> bool
-    ensures { result ≡ true → (get_or place.now k 0 ≡ p) × (get_or head.now k 0 ≡ h) × (get_or met.now k 0 ≡ 1) }
-{
-    if is_noted(h, p, k, place, head) {
-        if met[k] == 1 {
-            return true;
+        if has_mirror(s, h, p) {
+            return false;
         }
-        return false;
+        true
     }
-    false
-}
-
-// The line at p, under the heading at h, is a BT or NT without its mirror. Only one that has not been met is sought among all lines.
-fn lacks_mirror(
-    s: &[u8],
-    h: usize,
-    p: usize,
-    k: usize,
-    place: &[usize; TABLE],
-    head: &[usize; TABLE],
-    met: &[usize; TABLE],
-) -> bool
-    requires places { (h ≤ length s.now) × (p ≤ length s.now) }
-    requires mirrored { Met s.now place.now head.now met.now }
-    ensures { result ≡ wants (lines_of s.now) (name_at s.now h) (line_at s.now p) }
-{
-    if let Form::Heading | Form::Other = form_at(s, p) {
-        return false;
-    }
-    if is_met(h, p, k, place, head, met) {
-        return false;
-    }
-    if has_mirror(s, h, p) {
-        return false;
-    }
-    true
 }
 
 // "42 a BT or NT whose mirror line is missing": the first such line. TABLE lines at a time are noted, and all lines looked up among them:
@@ -631,9 +577,13 @@ fn lacks_mirror(
 fn first_unmirrored(s: &[u8]) -> Option<usize>
     ensures { result ≡ line_told (unmirrored_from (lines_of s.now) [] 1 (lines_of s.now)) }
 {
-    let mut place = [0usize; TABLE];
-    let mut head = [0usize; TABLE];
-    let mut met = [0usize; TABLE];
+    let mut noted = Noted {
+        place: [0usize; TABLE],
+        head: [0usize; TABLE],
+        before: [0usize; TABLE],
+        last: [0usize; TABLE],
+    };
+    let mut met = [false; TABLE];
     let mut h = s.len();
     let mut line: usize = 1;
     let mut at: usize = 0;
@@ -644,8 +594,8 @@ fn first_unmirrored(s: &[u8]) -> Option<usize>
         if s.len() <= to {
             return None;
         }
-        let e = entry_at(s, h, at, k, &mut place, &mut head, &mut met);
-        if lacks_mirror(s, h, at, e, &place, &head, &met) {
+        let e = noted.entry_at(s, h, at, k, &mut met);
+        if noted.lacks_mirror(s, h, at, e, &met) {
             return Some(line);
         }
         h = next_heading(s, h, at);

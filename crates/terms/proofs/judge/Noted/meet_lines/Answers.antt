@@ -2,7 +2,7 @@
 use native.Mathlib.Omega.{arith}
 use Rattle.terms.proofs.LineWays.{end_after}
 use Rattle.terms.proofs.MeetWays.{behind-start, under-here, behind-on}
-use Rattle.terms.proofs.judge.meet_lines.Goals as goal
+use Rattle.terms.proofs.judge.Noted.meet_lines.Goals as goal
 
 pub loop-at-init : goal.loop-at-init
 loop-at-init c = (omega arith, behind-start c.args.s.now, c.requires)

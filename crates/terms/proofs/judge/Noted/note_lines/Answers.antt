@@ -1,7 +1,7 @@
 -- `note_lines` is safe, and ends.
 use native.Mathlib.Omega.{arith}
 use Rattle.terms.proofs.LineWays.{end_after}
-use Rattle.terms.proofs.judge.note_lines.Goals as goal
+use Rattle.terms.proofs.judge.Noted.note_lines.Goals as goal
 
 pub note_line-requires : goal.note_line-requires
 note_line-requires c = (omega arith, omega arith, omega arith)

@@ -4,14 +4,14 @@ use Rattle.tagged.specs.Lines.{lines_of}
 use Rattle.terms.specs.Judging.{name_at, line_at}
 use Rattle.terms.proofs.JudgeWays.{told-related}
 use Rattle.terms.proofs.MirrorWays.{wants-has, wants-lacks}
-use Rattle.terms.proofs.judge.lacks_mirror.Goals as goal
+use Rattle.terms.proofs.judge.Noted.lacks_mirror.Goals as goal
 
 pub returns-then-is_met : goal.returns-then-is_met
 returns-then-is_met c =
     let a = c.args in
     let s = a.s.now in
     let m = c.is_met.ensures c.if-is_met.true in
-    wants-has (lines_of s) (name_at s a.h) (line_at s a.p) (rw (m.0, m.1) at (c.requires.mirrored.1 a.k m.2))
+    wants-has (lines_of s) (name_at s a.h) (line_at s a.p) (rw (m.0, m.1) at (c.requires.mirrored a.k m.2))
 
 pub returns-then-has_mirror : goal.returns-then-has_mirror
 returns-then-has_mirror c =

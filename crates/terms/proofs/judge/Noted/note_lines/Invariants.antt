@@ -1,7 +1,7 @@
 -- What the loops of `note_lines` keep.
 use Prim.Native.Nat.{◌-◌, ◌≤◌}
 use lib.ListN.{length}
-use Rattle.terms.proofs.judge.note_lines.Given as goal
+use Rattle.terms.proofs.judge.Noted.note_lines.Given as goal
 
 abbrev pub invariant-loop-p : goal.invariant-loop-p
 invariant-loop-p l = l.g ≤ length l.s

@@ -4,13 +4,13 @@ use native.Mathlib.Omega.{arith}
 use borrow.Author.Rules.{rules}
 use lib.ListN.{length}
 use Rattle.terms.proofs.JudgeWays.{end-within}
-use Rattle.terms.proofs.judge.meet_line.Goals as goal
+use Rattle.terms.proofs.judge.Noted.meet_line.Goals as goal
 
 pub side_at-side-requires : goal.side_at-side-requires
 side_at-side-requires c = c.requires.under.there
 
-pub returns-then-side-eq0 : goal.returns-then-side-eq0
-returns-then-side-eq0 c = c.requires.mirrored
+pub returns-in-Neither : goal.returns-in-Neither
+returns-in-Neither c = c.requires.mirrored
 
 pub overflow_add-q : goal.overflow_add-q
 overflow_add-q c =
@@ -25,7 +25,7 @@ key_of-key-requires c =
     let under = c.requires.under in
     let g_end = c.line_end-g_end.ensures in
     let q-end = c.line_end-q_end.ensures in
-    (omega (arith, g_end, end-within s a.g under.above), omega (arith, q-end, end-within s a.q under.there), omega (arith, c.side_at-side.ensures))
+    (omega (arith, g_end, end-within s a.g under.above), omega (arith, q-end, end-within s a.q under.there))
 
 pub loop-i-init : goal.loop-i-init
 loop-i-init c = c.requires.mirrored
