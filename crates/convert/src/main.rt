@@ -10,8 +10,8 @@ use tables::{read_full, show_hex};
 // The longest input: a book of 65,535 bytes behind its length.
 const LONGEST: usize = 2 + 65535;
 
-// One byte more than the longest input, so that bytes left over are seen.
 fn main(rt: HostRuntime) -> io::Result<()> {
+    // One byte more than the longest input, so that bytes left over are seen.
     let mut input = [0u8; LONGEST + 1];
     let n = read_full(&mut rt.stdin(), &mut input)?;
     convert(&rt, &input[..n])
@@ -24,10 +24,11 @@ fn convert(rt: &impl Print, input: &[u8]) -> io::Result<()> {
         return println!(rt; "J");
     }
     let mut room = [0u8; Limits::BOOK];
-    let (refusal, place, written) = match convert_book(part_of(input, 2, end), &mut room) {
-        Ok(written) => (0, 0, written),
-        Err(refusal) => (refusal.number(), refusal.place(), 0),
-    };
-    println!(rt; "R {refusal} {place} {written}")?;
-    show_hex(rt, part_of(&room, 0, written))
+    match convert_book(part_of(input, 2, end), &mut room) {
+        Ok(written) => {
+            println!(rt; "R 0 0 {written}")?;
+            show_hex(rt, part_of(&room, 0, written))
+        }
+        Err(refusal) => println!(rt; "R {refusal} 0"),
+    }
 }

@@ -12,6 +12,7 @@ const NUMBERS: usize = 40000;
 
 const BYTES: usize = 32800;
 
+// Each program over a table has these three lines. One function for them would be called with the size and the closure all the same, and hide what is read.
 fn main(rt: HostRuntime) -> io::Result<()> {
     let mut input = [0u8; 65536];
     let n = read_full(&mut rt.stdin(), &mut input)?;
@@ -75,18 +76,10 @@ fn show_writing(rt: &impl Print, room: usize, symbols: &[u8], trees: &[u8]) -> i
     let trees = numbers_of(trees);
     let lent = at_most(room, BYTES);
     let mut bytes = [170u8; BYTES];
-    let (refusal, row, written) = match write_book(
-        symbols.as_slice(),
-        trees.as_slice(),
-        &mut bytes[..lent],
-    ) {
-        Ok(written) => (0, 0, written),
-        Err(refusal) => (refusal.number(), refusal.row(), 0),
-    };
-    println!(rt; ": {refusal} {row} {written}; bytes {}", sum_of(&bytes))
-}
-
-// The checksum of the whole room, lent or not.
-fn sum_of(bytes: &[u8; BYTES]) -> u32 {
-    checksum_of(&bytes[..])
+    match write_book(symbols.as_slice(), trees.as_slice(), &mut bytes[..lent]) {
+        Ok(written) => print!(rt; ": 0 0 {written}")?,
+        Err(refusal) => print!(rt; ": {refusal} 0")?,
+    }
+    // of the whole room, lent or not
+    println!(rt; "; bytes {}", checksum_of(&bytes))
 }
