@@ -50,7 +50,7 @@ fn is_name(s: &[u8], from: usize, to: usize) -> bool
     is_printed(s, from, to)
 }
 
-// The same bytes stand from a to end and from b to until.
+// The same bytes stand from a to end and from b to until. Its callers would each write two `part_of`, which is no plainer.
 pub(crate) fn same(s: &[u8], a: usize, end: usize, b: usize, until: usize) -> bool
     requires { (end ≤ length s.now) × (until ≤ length s.now) }
     ensures { result ≡ same_bytes (bytes_of s.now a end) (bytes_of s.now b until) }

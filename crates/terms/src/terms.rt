@@ -59,46 +59,56 @@ fn note_line(
     }
 }
 
-// All headings are noted by the places where their names open and end, so that a name is looked up without going over the lines again.
-fn note_headings(s: &[u8], opens: &mut [usize; HEADINGS], ends: &mut [usize; HEADINGS]) -> usize
-    requires few { length (headings_of (lines_of s.now)) ≤ most_headings }
-    requires sized { (length opens.old ≡ most_headings) × (length ends.old ≡ most_headings) }
-    ensures { AllNoted s.now opens.new ends.new result }
-{
-    let mut count: usize = 0;
-    let mut at: usize = 0;
-    // a hop: the next line opens behind this one's end
-    while at < s.len() {
-        let end = line_end(s, at);
-        if s.len() <= end {
-            return count;
-        }
-        count = note_line(s, at, end, count, opens, ends);
-        at = end + 1;
-    }
-    count
+// All headings of a listing, by the places where their names open and end, so that a name is looked up without going over the lines again.
+#[derive(Drop)]
+struct Headings<'a> {
+    s: &'a [u8],
+    // Rows side by side, of fixed size: an array of pairs is no plainer, as Noted and LineNoted say each of one row.
+    opens: [usize; HEADINGS],
+    ends: [usize; HEADINGS],
+    count: usize,
+    ghost noted: { AllNoted s.now opens ends count },
 }
 
-// "Headings are numbered by their own lines": the number of the heading with the name from `from` to `until`, among those noted.
-fn number_among(
-    s: &[u8],
-    opens: &[usize; HEADINGS],
-    ends: &[usize; HEADINGS],
-    count: usize,
-    from: usize,
-    until: usize,
-) -> usize
-    requires { (until ≤ length s.now) × AllNoted s.now opens.now ends.now count }
-    ensures { result ≡ number_of (bytes_of s.now from until) (headings_of (lines_of s.now)) }
-{
-    for x in 0..count {
-        let at = opens[x];
-        let end = ends[x];
-        if same(s, from, until, at, end) {
-            return x;
+impl<'a> Headings<'a> {
+    // Line by line.
+    fn noted(s: &'a [u8]) -> Headings<'a>
+        requires { length (headings_of (lines_of s.now)) ≤ most_headings }
+        ensures { result.s.now ≡ s.now }
+    {
+        let mut opens = [0usize; HEADINGS];
+        let mut ends = [0usize; HEADINGS];
+        let mut count: usize = 0;
+        let mut at: usize = 0;
+        // a hop: the next line opens behind this one's end
+        while at < s.len() {
+            let end = line_end(s, at);
+            if s.len() <= end {
+                break;
+            }
+            count = note_line(s, at, end, count, &mut opens, &mut ends);
+            at = end + 1;
+        }
+        Headings {
+            s,
+            opens,
+            ends,
+            count,
         }
     }
-    count
+
+    // "Headings are numbered by their own lines": the number of the heading with the name from `from` to `until`.
+    fn number_of(&self, from: usize, until: usize) -> usize
+        requires { until ≤ length self.now.s.now }
+        ensures { result ≡ number_of (bytes_of self.now.s.now from until) (headings_of (lines_of self.now.s.now)) }
+    {
+        for x in 0..self.count {
+            if same(self.s, from, until, self.opens[x], self.ends[x]) {
+                return x;
+            }
+        }
+        self.count
+    }
 }
 
 // What the lines so far give: how many headings, how many broader terms the last of them has, how many there are in all, and how many bytes
@@ -159,30 +169,21 @@ fn add_term(sum: Sum, term: usize, from: &mut [u16; ROWS], to: &mut [u16; TERMS]
 
 // What the line from `at` to its newline at `end` adds.
 fn take_line(
-    s: &[u8],
-    opens: &[usize; HEADINGS],
-    ends: &[usize; HEADINGS],
-    count: usize,
+    known: &Headings<'_>,
     at: usize,
     end: usize,
     sum: Sum,
     from: &mut [u16; ROWS],
     to: &mut [u16; TERMS],
 ) -> Sum
-    requires room { (at ≤ end) × (end ≤ length s.now) × Within sum × RoomFor (headings_of (lines_of s.now)) (line_of (bytes_of s.now at end)) sum }
-    requires noted { AllNoted s.now opens.now ends.now count }
-    ensures { LineTaken (headings_of (lines_of s.now)) (line_of (bytes_of s.now at end)) sum result
+    requires { (at ≤ end) × (end ≤ length known.now.s.now) × Within sum
+        × RoomFor (headings_of (lines_of known.now.s.now)) (line_of (bytes_of known.now.s.now at end)) sum }
+    ensures { LineTaken (headings_of (lines_of known.now.s.now)) (line_of (bytes_of known.now.s.now at end)) sum result
         from.old from.new to.old to.new }
 {
-    let f = form_of(s, at, end);
-    match f {
+    match form_of(known.s, at, end) {
         Form::Heading => open_row(sum, from),
-        Form::Broader => add_term(
-            sum,
-            number_among(s, opens, ends, count, at + 5, end),
-            from,
-            to,
-        ),
+        Form::Broader => add_term(sum, known.number_of(at + 5, end), from, to),
         Form::Narrower => sum,
         Form::Other => sum,
     }
@@ -203,9 +204,7 @@ fn gathered(s: &[u8]) -> Result<Terms, Refusal>
     requires { FewHeadings (broader_in s.now) }
     ensures { (told_of result ≡ terms_told (broader_in s.now)) × TermsAs (told_of result) (broader_in s.now) }
 {
-    let mut opens = [0usize; HEADINGS];
-    let mut ends = [0usize; HEADINGS];
-    let count = note_headings(s, &mut opens, &mut ends);
+    let known = Headings::noted(s);
     let mut from = [0u16; ROWS];
     let mut to = [0u16; TERMS];
     let mut sum = Sum {
@@ -218,7 +217,7 @@ fn gathered(s: &[u8]) -> Result<Terms, Refusal>
     // a hop: the next line opens behind this one's end
     while at < s.len() {
         let end = line_end(s, at);
-        sum = take_line(s, &opens, &ends, count, at, end, sum, &mut from, &mut to);
+        sum = take_line(&known, at, end, sum, &mut from, &mut to);
         if !is_within(sum) {
             return Err(Fault::Size.at(0));
         }

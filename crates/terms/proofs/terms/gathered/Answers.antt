@@ -9,9 +9,8 @@ use Rattle.terms.proofs.TermsExact.{zero-at}
 use Rattle.terms.proofs.TermsGoing.{few-names, going-first, going-within, told_over, line-ends, going-room, going_on_lem, told_fitting}
 use Rattle.terms.proofs.terms.gathered.Goals as goal
 
-pub note_headings-count-requires : goal.note_headings-count-requires
-note_headings-count-requires c =
-    record { few = few-names c.args.s.now c.requires; sized = (refl, refl) }
+pub noted-known-requires : goal.noted-known-requires
+noted-known-requires c = few-names c.args.s.now c.requires
 
 pub loop-at-init : goal.loop-at-init
 loop-at-init c =
@@ -27,10 +26,7 @@ take_line-sum-requires c =
     let room = going-room s loop.at loop.sum loop.from loop.to loop.invariant.0 there loop.invariant.1 in
     let later = end_after s loop.at in
     let end = c.line_end-end.ensures in
-    record {
-      room = (omega (arith, later), omega (arith, ends), loop.invariant.1, rw end room);
-      noted = c.note_headings-count.ensures;
-    }
+    rw c.noted-known.ensures (omega (arith, later), omega (arith, ends), loop.invariant.1, rw end room)
 
 pub returns-then-not-is_within : goal.returns-then-not-is_within
 returns-then-not-is_within c =
@@ -41,7 +37,7 @@ returns-then-not-is_within c =
     let end = c.line_end-end.ensures in
     let ends = line-ends s loop.at loop.sum loop.from loop.to g there in
     let took = c.take_line-sum in
-    let next = going_on_lem s loop.at loop.sum loop.from loop.to g there loop.invariant.1 took.result _ _ (rw end at took.ensures) in
+    let next = going_on_lem s loop.at loop.sum loop.from loop.to g there loop.invariant.1 took.result _ _ (rw (c.noted-known.ensures, end) at took.ensures) in
     let over = sym c.is_within.ensures ∙ c.if-not-is_within.true in
     rw c.at.ensures (told_over s _ took.result _ _ next over)
 
@@ -75,7 +71,7 @@ loop-at-preserved c =
     let end = c.line_end-end.ensures in
     let ends = line-ends s loop.at loop.sum loop.from loop.to g there in
     let took = c.take_line-sum in
-    let next = going_on_lem s loop.at loop.sum loop.from loop.to g there loop.invariant.1 took.result _ _ (rw end at took.ensures) in
+    let next = going_on_lem s loop.at loop.sum loop.from loop.to g there loop.invariant.1 took.result _ _ (rw (c.noted-known.ensures, end) at took.ensures) in
     let within = sym c.is_within.ensures ∙ c.if-not-is_within.false in
     (rw end next, going-within s _ took.result _ _ next within)
 

@@ -11,53 +11,53 @@ use Rattle.terms.proofs.terms.take_line.Goals as goal
 pub open_row-requires : goal.open_row-requires
 open_row-requires c =
     let a = c.args in
-    let found = c.form_of-f in
-    let bs = bytes_of a.s.now a.at a.end in
-    let names = headings_of (lines_of a.s.now) in
-    let room = room-heading found.result bs found.ensures names a.sum c.in-Heading.is c.requires.room.3 in
-    (c.requires.room.2, room)
+    let found = c.form_of in
+    let bs = bytes_of a.known.now.s.now a.at a.end in
+    let names = headings_of (lines_of a.known.now.s.now) in
+    let room = room-heading found.result bs found.ensures names a.sum c.in-Heading.is c.requires.3 in
+    (c.requires.2, room)
 
 pub add_term-requires : goal.add_term-requires
 add_term-requires c =
     let a = c.args in
-    let s = a.s.now in
-    let found = c.form_of-f in
+    let s = a.known.now.s.now in
+    let found = c.form_of in
     let bs = bytes_of s a.at a.end in
     let names = headings_of (lines_of s) in
-    let room = room-broader found.result bs found.ensures names a.sum c.in-Broader.is c.requires.room.3 in
+    let room = room-broader found.result bs found.ensures names a.sum c.in-Broader.is c.requires.3 in
     let name = ap (λ l. number_of l names) (behind_tag s a.at a.end) in
-    (c.requires.room.2, omega (arith, room, name, c.number_among.ensures))
+    (c.requires.2, omega (arith, room, name, c.number_of.ensures))
 
 pub returns-in-Heading : goal.returns-in-Heading
 returns-in-Heading c =
     let a = c.args in
-    let found = c.form_of-f in
-    let bs = bytes_of a.s.now a.at a.end in
+    let found = c.form_of in
+    let bs = bytes_of a.known.now.s.now a.at a.end in
     let (sums, opened) = c.open_row.ensures in
-    taken_heading found.result bs found.ensures (headings_of (lines_of a.s.now)) a.sum c.in-Heading.is sums opened refl
+    taken_heading found.result bs found.ensures (headings_of (lines_of a.known.now.s.now)) a.sum c.in-Heading.is sums opened refl
 
 pub returns-in-Broader : goal.returns-in-Broader
 returns-in-Broader c =
     let a = c.args in
-    let s = a.s.now in
-    let found = c.form_of-f in
+    let s = a.known.now.s.now in
+    let found = c.form_of in
     let bs = bytes_of s a.at a.end in
     let names = headings_of (lines_of s) in
     let added = c.add_term.ensures in
     let name = ap (λ l. number_of l names) (behind_tag s a.at a.end) in
-    let term = ap (set a.to.now a.sum.terms) (c.number_among.ensures ∙ sym name) in
+    let term = ap (set a.to.now a.sum.terms) (c.number_of.ensures ∙ sym name) in
     taken_broader found.result bs found.ensures names a.sum c.in-Broader.is added.added added.row_ends (added.term_noted ∙ term)
 
 pub returns-in-Narrower : goal.returns-in-Narrower
 returns-in-Narrower c =
     let a = c.args in
-    let found = c.form_of-f in
-    let bs = bytes_of a.s.now a.at a.end in
-    taken_narrower found.result bs found.ensures (headings_of (lines_of a.s.now)) a.sum c.in-Narrower.is refl refl refl
+    let found = c.form_of in
+    let bs = bytes_of a.known.now.s.now a.at a.end in
+    taken_narrower found.result bs found.ensures (headings_of (lines_of a.known.now.s.now)) a.sum c.in-Narrower.is refl refl refl
 
 pub returns-in-Other : goal.returns-in-Other
 returns-in-Other c =
     let a = c.args in
-    let found = c.form_of-f in
-    let bs = bytes_of a.s.now a.at a.end in
-    taken_other found.result bs found.ensures (headings_of (lines_of a.s.now)) a.sum c.in-Other.is refl refl refl
+    let found = c.form_of in
+    let bs = bytes_of a.known.now.s.now a.at a.end in
+    taken_other found.result bs found.ensures (headings_of (lines_of a.known.now.s.now)) a.sum c.in-Other.is refl refl refl

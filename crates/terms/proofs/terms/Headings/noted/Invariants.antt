@@ -1,8 +1,8 @@
--- What the loops of `note_headings` keep.
+-- What the loops of `noted` keep.
 use Prim.Native.Nat.{◌-◌}
 use lib.ListN.{length}
 use Rattle.terms.proofs.TermsNoted.{Noting}
-use Rattle.terms.proofs.terms.note_headings.Given as goal
+use Rattle.terms.proofs.terms.Headings.noted.Given as goal
 
 abbrev pub invariant-loop-at : goal.invariant-loop-at
 invariant-loop-at l = Noting l.s l.at l.count l.opens l.ends
