@@ -131,61 +131,55 @@ fn grown(own: usize) -> usize
     12
 }
 
-// A heading's own line: its row opens where the last one ends. Three symbols of 3 bytes and two rules to fail, of 4 each.
-fn open_row(sum: Sum, from: &mut [u16; ROWS]) -> Sum
-    requires { Within sum × (sum.headings < most_headings) }
-    ensures { (result ≡ sum_opened sum) × (from.new ≡ set from.old (sum.headings + 1) sum.terms) }
-{
-    let x = sum.headings + 1;
-    let terms = sum.terms;
-    from[x] = terms as u16;
-    Sum {
-        headings: x,
-        own: 0,
-        terms,
-        size: sum.size + 17,
-    }
-}
-
-// A BT line: one more term in the last heading's row.
-fn add_term(sum: Sum, term: usize, from: &mut [u16; ROWS], to: &mut [u16; TERMS]) -> Sum
-    requires { Within sum × (term < most_headings) }
-    ensures added { result ≡ sum_added sum }
-    ensures row_ends { from.new ≡ set from.old sum.headings (sum.terms + 1) }
-    ensures term_noted { to.new ≡ set to.old sum.terms term }
-{
-    let x = sum.headings;
-    let own = sum.own;
-    let terms = sum.terms;
-    to[terms] = term as u16;
-    from[x] = (terms + 1) as u16;
-    Sum {
-        headings: x,
-        own: own + 1,
-        terms: terms + 1,
-        size: sum.size + grown(own),
-    }
-}
-
-// What the line from `at` to its newline at `end` adds.
-fn take_line(
-    known: &Headings<'_>,
-    at: usize,
-    end: usize,
+// What the lines so far give, and the rows of their broader terms.
+#[derive(Drop)]
+struct Listed {
     sum: Sum,
-    from: &mut [u16; ROWS],
-    to: &mut [u16; TERMS],
-) -> Sum
-    requires { (at ≤ end) × (end ≤ length known.now.s.now) × Within sum
-        × RoomFor (headings_of (lines_of known.now.s.now)) (line_of (bytes_of known.now.s.now at end)) sum }
-    ensures { LineTaken (headings_of (lines_of known.now.s.now)) (line_of (bytes_of known.now.s.now at end)) sum result
-        from.old from.new to.old to.new }
-{
-    match form_of(known.s, at, end) {
-        Form::Heading => open_row(sum, from),
-        Form::Broader => add_term(sum, known.number_of(at + 5, end), from, to),
-        Form::Narrower => sum,
-        Form::Other => sum,
+    from: [u16; ROWS],
+    to: [u16; TERMS],
+}
+
+impl Listed {
+    // A heading's own line: its row opens where the last one ends. Three symbols of 3 bytes and two rules to fail, of 4 each.
+    fn open_row(&mut self)
+        requires { Within self.old.sum × (self.old.sum.headings < most_headings) }
+        ensures sums { self.new.sum ≡ sum_opened self.old.sum }
+        ensures row_opens { self.new.from ≡ set self.old.from (self.old.sum.headings + 1) self.old.sum.terms }
+        ensures same_terms { self.new.to ≡ self.old.to }
+    {
+        self.sum.headings += 1;
+        self.sum.own = 0;
+        self.sum.size += 17;
+        self.from[self.sum.headings] = self.sum.terms as u16;
+    }
+
+    // A BT line: one more term in the last heading's row.
+    fn add_term(&mut self, term: usize)
+        requires { Within self.old.sum × (term < most_headings) }
+        ensures added { self.new.sum ≡ sum_added self.old.sum }
+        ensures row_ends { self.new.from ≡ set self.old.from self.old.sum.headings (self.old.sum.terms + 1) }
+        ensures term_noted { self.new.to ≡ set self.old.to self.old.sum.terms term }
+    {
+        self.to[self.sum.terms] = term as u16;
+        self.sum.terms += 1;
+        self.from[self.sum.headings] = self.sum.terms as u16;
+        self.sum.size += grown(self.sum.own);
+        self.sum.own += 1;
+    }
+
+    // What the line from `at` to its newline at `end` adds.
+    fn take_line(&mut self, known: &Headings<'_>, at: usize, end: usize)
+        requires { (at ≤ end) × (end ≤ length known.now.s.now) × Within self.old.sum
+            × RoomFor (headings_of (lines_of known.now.s.now)) (line_of (bytes_of known.now.s.now at end)) self.old.sum }
+        ensures { LineTaken (headings_of (lines_of known.now.s.now)) (line_of (bytes_of known.now.s.now at end)) self.old.sum self.new.sum
+            self.old.from self.new.from self.old.to self.new.to }
+    {
+        match form_of(known.s, at, end) {
+            Form::Heading => self.open_row(),
+            Form::Broader => self.add_term(known.number_of(at + 5, end)),
+            Form::Narrower => {}
+            Form::Other => {}
+        }
     }
 }
 
@@ -205,29 +199,31 @@ fn gathered(s: &[u8]) -> Result<Terms, Refusal>
     ensures { (told_of result ≡ terms_told (broader_in s.now)) × TermsAs (told_of result) (broader_in s.now) }
 {
     let known = Headings::noted(s);
-    let mut from = [0u16; ROWS];
-    let mut to = [0u16; TERMS];
-    let mut sum = Sum {
-        headings: 0,
-        own: 0,
-        terms: 0,
-        size: 5,
+    let mut rows = Listed {
+        sum: Sum {
+            headings: 0,
+            own: 0,
+            terms: 0,
+            size: 5,
+        },
+        from: [0u16; ROWS],
+        to: [0u16; TERMS],
     };
     let mut at: usize = 0;
     // a hop: the next line opens behind this one's end
     while at < s.len() {
         let end = line_end(s, at);
-        sum = take_line(&known, at, end, sum, &mut from, &mut to);
-        if !is_within(sum) {
+        rows.take_line(&known, at, end);
+        if !is_within(rows.sum) {
             return Err(Fault::Size.at(0));
         }
         at = end + 1;
     }
     Ok(Terms {
-        headings: sum.headings,
-        size: sum.size,
-        from,
-        to,
+        headings: rows.sum.headings,
+        size: rows.sum.size,
+        from: rows.from,
+        to: rows.to,
     })
 }
 

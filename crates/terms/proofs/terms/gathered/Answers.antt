@@ -17,13 +17,13 @@ loop-at-init c =
     let g = going-first c.args.s.now _ _ c.requires refl refl (zero-at 342) (zero-at 2736) in
     (g, record { headings = omega arith; own = omega arith; terms = omega arith; size = omega arith })
 
-pub take_line-sum-requires : goal.take_line-sum-requires
-take_line-sum-requires c =
+pub take_line-requires : goal.take_line-requires
+take_line-requires c =
     let loop = c.loop-at in
     let s = c.args.s.now in
     let there : loop.at < length s = omega arith in
-    let ends = line-ends s loop.at loop.sum loop.from loop.to loop.invariant.0 there in
-    let room = going-room s loop.at loop.sum loop.from loop.to loop.invariant.0 there loop.invariant.1 in
+    let ends = line-ends s loop.at loop.rows.sum loop.rows.from loop.rows.to loop.invariant.0 there in
+    let room = going-room s loop.at loop.rows.sum loop.rows.from loop.rows.to loop.invariant.0 there loop.invariant.1 in
     let later = end_after s loop.at in
     let end = c.line_end-end.ensures in
     rw c.noted-known.ensures (omega (arith, later), omega (arith, ends), loop.invariant.1, rw end room)
@@ -35,11 +35,11 @@ returns-then-not-is_within c =
     let there : loop.at < length s = omega arith in
     let g = loop.invariant.0 in
     let end = c.line_end-end.ensures in
-    let ends = line-ends s loop.at loop.sum loop.from loop.to g there in
-    let took = c.take_line-sum in
-    let next = going_on_lem s loop.at loop.sum loop.from loop.to g there loop.invariant.1 took.result _ _ (rw (c.noted-known.ensures, end) at took.ensures) in
+    let ends = line-ends s loop.at loop.rows.sum loop.rows.from loop.rows.to g there in
+    let took = c.take_line in
+    let next = going_on_lem s loop.at loop.rows.sum loop.rows.from loop.rows.to g there loop.invariant.1 took.new.self.sum _ _ (rw (c.noted-known.ensures, end) at took.ensures) in
     let over = sym c.is_within.ensures ∙ c.if-not-is_within.true in
-    rw c.at.ensures (told_over s _ took.result _ _ next over)
+    rw c.at.ensures (told_over s _ took.new.self.sum _ _ next over)
 
 pub overflow_add-at : goal.overflow_add-at
 overflow_add-at c =
@@ -48,7 +48,7 @@ overflow_add-at c =
     let there : loop.at < length s = omega arith in
     let g = loop.invariant.0 in
     let end = c.line_end-end.ensures in
-    let ends = line-ends s loop.at loop.sum loop.from loop.to g there in
+    let ends = line-ends s loop.at loop.rows.sum loop.rows.from loop.rows.to g there in
     search rules
 
 pub loop-at-smaller : goal.loop-at-smaller
@@ -58,7 +58,7 @@ loop-at-smaller c =
     let there : loop.at < length s = omega arith in
     let g = loop.invariant.0 in
     let end = c.line_end-end.ensures in
-    let ends = line-ends s loop.at loop.sum loop.from loop.to g there in
+    let ends = line-ends s loop.at loop.rows.sum loop.rows.from loop.rows.to g there in
     let later = end_after s loop.at in
     omega (arith, ends, later)
 
@@ -69,14 +69,14 @@ loop-at-preserved c =
     let there : loop.at < length s = omega arith in
     let g = loop.invariant.0 in
     let end = c.line_end-end.ensures in
-    let ends = line-ends s loop.at loop.sum loop.from loop.to g there in
-    let took = c.take_line-sum in
-    let next = going_on_lem s loop.at loop.sum loop.from loop.to g there loop.invariant.1 took.result _ _ (rw (c.noted-known.ensures, end) at took.ensures) in
+    let ends = line-ends s loop.at loop.rows.sum loop.rows.from loop.rows.to g there in
+    let took = c.take_line in
+    let next = going_on_lem s loop.at loop.rows.sum loop.rows.from loop.rows.to g there loop.invariant.1 took.new.self.sum _ _ (rw (c.noted-known.ensures, end) at took.ensures) in
     let within = sym c.is_within.ensures ∙ c.if-not-is_within.false in
-    (rw end next, going-within s _ took.result _ _ next within)
+    (rw end next, going-within s _ took.new.self.sum _ _ next within)
 
 pub returns : goal.returns
 returns c =
     let loop = c.loop-at in
     let s = c.args.s.now in
-    told_fitting s loop.at loop.sum loop.from loop.to loop.invariant.0 loop.invariant.1 (omega arith)
+    told_fitting s loop.at loop.rows.sum loop.rows.from loop.rows.to loop.invariant.0 loop.invariant.1 (omega arith)

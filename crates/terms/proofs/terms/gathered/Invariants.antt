@@ -6,7 +6,7 @@ use Rattle.terms.proofs.TermsGoing.{Going}
 use Rattle.terms.proofs.terms.gathered.Given as goal
 
 abbrev pub invariant-loop-at : goal.invariant-loop-at
-invariant-loop-at l = Going l.s l.at l.sum l.from l.to × Within l.sum
+invariant-loop-at l = Going l.s l.at l.rows.sum l.rows.from l.rows.to × Within l.rows.sum
 
 abbrev pub decreases-loop-at : goal.decreases-loop-at
 decreases-loop-at l = length l.s - l.at
