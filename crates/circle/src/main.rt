@@ -15,8 +15,8 @@ const LONGEST: usize = 262143;
 // The most headings that a book can have.
 const HEADINGS: usize = 341;
 
-// One byte more than the longest listing, so that a longer one is seen.
 fn main(rt: HostRuntime) -> io::Result<()> {
+    // One byte more than the longest listing, so that a longer one is seen.
     let mut input = [0u8; LONGEST + 1];
     let n = read_full(&mut rt.stdin(), &mut input)?;
     show_saved(&rt, &input[..n])
@@ -36,7 +36,7 @@ fn show_saved(rt: &impl Print, listing: &[u8]) -> io::Result<()> {
                 show_circle(rt, listing, &row, s.circle)
             }
         }
-        Err(r) => println!(rt; "R {} {} 0 0", r.number(), r.line),
+        Err(r) => println!(rt; "R {r} 0 0"),
     }
 }
 

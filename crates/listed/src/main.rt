@@ -40,7 +40,7 @@ fn show_book(rt: &impl Print, listing: &[u8], lent: usize) -> io::Result<()> {
     let sum = checksum_of(&room);
     match written {
         Ok(bytes) => println!(rt; "L 0 0 {bytes} {sum}"),
-        Err(r) => println!(rt; "L {} {} 0 {sum}", r.number(), r.line),
+        Err(r) => println!(rt; "L {r} 0 {sum}"),
     }
 }
 
@@ -49,7 +49,7 @@ fn show_saved(rt: &impl Print, listing: &[u8], lent: usize) -> io::Result<()> {
     let length = at_most(lent, NUMBERS);
     match save_listing(listing, &mut row[0..length]) {
         Ok(s) => print!(rt; "O 0 0 {} {}:", s.headings, s.circle)?,
-        Err(r) => print!(rt; "O {} {} 0 0:", r.number(), r.line)?,
+        Err(r) => print!(rt; "O {r} 0 0:")?,
     }
     // the numbers that are not as they were
     for n in row {

@@ -10,8 +10,8 @@ use tables::{read_full, show_hex};
 // The longest listing that is read; of a longer one only `J` is printed.
 const LONGEST: usize = 262143;
 
-// One byte more than the longest listing, so that a longer one is seen.
 fn main(rt: HostRuntime) -> io::Result<()> {
+    // One byte more than the longest listing, so that a longer one is seen.
     let mut input = [0u8; LONGEST + 1];
     let n = read_full(&mut rt.stdin(), &mut input)?;
     show_book(&rt, &input[..n])
@@ -27,7 +27,7 @@ fn show_book(rt: &impl Print, listing: &[u8]) -> io::Result<()> {
             println!(rt; "R 0 0 {bytes}")?;
             show_hex(rt, first(&room, bytes))
         }
-        Err(r) => println!(rt; "R {} {} 0", r.number(), r.line),
+        Err(r) => println!(rt; "R {r} 0"),
     }
 }
 

@@ -2,6 +2,8 @@
 ghost use Rattle.std.specs.Prelude.{◌≡◌, ◌≤◌};
 ghost use Rattle.terms.specs.Refusals.{number_of};
 
+use std::fmt;
+
 // What is at fault, by its number.
 #[derive(Clone, Copy, Debug, PartialEq, Eq)]
 pub enum Fault {
@@ -38,5 +40,12 @@ impl Refusal {
         ensures { result ≡ number_of self.fault }
     {
         self.fault as u8
+    }
+}
+
+// As the programs print it: its number and the line concerned.
+impl fmt::Display for Refusal {
+    fn fmt<W: fmt::Write>(&self, f: &mut fmt::Formatter<W>) -> fmt::Result {
+        write!(f, "{} {}", self.number(), self.line)
     }
 }
