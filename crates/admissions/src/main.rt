@@ -8,6 +8,7 @@ use reading::Reading;
 use std::io;
 use tables::{Fields, for_each_row, read_full};
 
+// Each program over a table has these three lines. One function for them would be called with the size and the closure all the same, and hide what is read.
 fn main(rt: HostRuntime) -> io::Result<()> {
     let mut input = [0u8; 262144];
     let n = read_full(&mut rt.stdin(), &mut input)?;
@@ -20,7 +21,7 @@ fn show_row(rt: &impl Print, row: &mut Fields<'_>) -> io::Result<()> {
     let book = row.field();
     match verdict(book, row.field()) {
         Ok(_) => print!(rt; "0 0 ")?,
-        Err(r) => print!(rt; "{} {} ", r.number(), r.place)?,
+        Err(r) => print!(rt; "{r} ")?,
     }
     rt.write_all(label)?;
     rt.write_all(b"\n")

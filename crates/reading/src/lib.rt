@@ -5,6 +5,8 @@ ghost use Rattle.std.specs.Prelude.{◌≡◌, ◌-◌, ◌<◌, ◌≤◌, get_
 ghost use Rattle.reading.specs.Bytes.{big_endian, byte_at, length_at};
 ghost use Rattle.reading.specs.Answer.{reading_of, base_of, number_of, refusal_number, part_of};
 
+use std::fmt;
+
 // What is refused in a book or a question, numbered as document 01 has them.
 #[derive(Clone, Copy, Debug, PartialEq, Eq)]
 pub enum Fault {
@@ -33,6 +35,13 @@ pub struct Refusal {
     pub who: Asker,
     pub fault: Fault,
     pub place: usize,
+}
+
+// As the programs print it: its number and its place.
+impl fmt::Display for Refusal {
+    fn fmt<W: fmt::Write>(&self, f: &mut fmt::Formatter<W>) -> fmt::Result {
+        write!(f, "{} {}", self.number(), self.place)
+    }
 }
 
 // What reading finds: what was read, and the place behind it.
