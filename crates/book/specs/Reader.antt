@@ -1,10 +1,8 @@
 -- What the reader of trees keeps beside the bytes: the path's variables, and the ends that it marks.
-use Rattle.std.specs.Prelude.{false, List, ◌≡◌, ℕ, ◌≤◌, ◌<◌, length, get_or, take, Result, Ok, Err}
+use Rattle.std.specs.Prelude.{false, List, ◌≡◌, ℕ, ◌≤◌, ◌<◌, length, get_or, take}
 use Rattle.std.specs.Coded.{Π_prop, →_prop, le_prop}
 use Rattle.limits.specs.Sizes.{most_symbols, most_variables, most_arguments, sorts_of_a_byte}
 use Rattle.reading.specs.Reading.{Reading, got, refusal}
-use Rattle.reading.specs.Answer.{refusal_number}
-use Rattle.reading.specs.declared.Refusal.{Refusal}
 use Rattle.symbols.specs.Symbols.{Symbols, symbol_of}
 use Rattle.symbols.specs.Table.{symbols_in, in_array, nexts_from, firsts_from}
 use Rattle.book.specs.TreeAt.{is_in}
@@ -52,8 +50,3 @@ MarkedRow p (refusal c q) was is = Unit {0}
 unfoldable pub Indexed : ℕ → ℕ → Symbols → Reading Trees → List ℕ → List ℕ → List ℕ → List ℕ → Type 0
 Indexed p f rest (got ts q) info' info ends' ends = (info ≡ roots_from p f rest ts info') × (ends ≡ ends_from p rest ts ends')
 Indexed p f rest (refusal c q) info' info ends' ends = Unit {0}
-
--- the answer of a reader that keeps nothing but the place behind what it read
-abbrev pub behind_of : Result ℕ Refusal → Reading ℕ
-behind_of (Ok next) = got 0 next
-behind_of (Err r) = refusal (refusal_number r) r.place

@@ -1,13 +1,13 @@
 -- What the reader of trees asks, and what it answers: the reading of the definition (TreeAt.antt) without its trees, and their ends marked.
 use Rattle.std.specs.Prelude.{false, List, ◌++◌, ◌≡◌, ℕ, ◌+◌, get_or, Result, IfOk}
 use Rattle.reading.specs.Reading.{Reading}
-use Rattle.reading.specs.Answer.{reading_by, keeping, nothing}
+use Rattle.reading.specs.Answer.{behind_of, reading_by, keeping, nothing}
 use Rattle.reading.specs.declared.Refusal.{Refusal}
 use Rattle.symbols.specs.Symbols.{Symbols, constructors_of}
 use Rattle.symbols.specs.Table.{symbols_in, symbol_in}
 use Rattle.book.specs.Trees.{Tree, Trees}
 use Rattle.book.specs.TreeAt.{binds_past, trees_with, tree_in, item_at, trees_of, tree_part}
-use Rattle.book.specs.Reader.{vars_of, Branched, Marked, MarkedRow, Indexed, behind_of}
+use Rattle.book.specs.Reader.{vars_of, Branched, Marked, MarkedRow, Indexed}
 use Rattle.book.specs.declared.path.Path.{Path}
 use Rattle.book.specs.declared.table.Table.{Table}
 use Rattle.book.specs.declared.trees.TreePart.{TreePart}

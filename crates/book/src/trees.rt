@@ -77,9 +77,8 @@ fn read_tree(
         return Err(Fault::Code.at(Asker::Book, p));
     }
     let (code, from) = byte_at(table.book, Asker::Book, e, p)?;
-    // The codes of document 01 are met here alone, so they are numbers and no enum.
     let behind = match code {
-        // An exempt, which edition 2 has not.
+        // An exempt, which version 2 has not.
         0 if byte(table.book, 0) != 2 => from,
         // A rule.
         1 => read_rule(table, e, path, sort, from)?.1,

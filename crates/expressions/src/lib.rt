@@ -1,4 +1,4 @@
-// Expressions: the reader of one and the reader of a row of them call each other, and the node allowance left falls. A shared part (edition
+// Expressions: the reader of one and the reader of a row of them call each other, and the node allowance left falls. A shared part (version
 // 2) is no node: those that stand directly in each other are read by a loop, and a body binds a variable, of which there are few. So
 // however many bytes there are, the calls stand no deeper than the 64 nodes and 32 variables of a path let them.
 #![tactic(auto)]

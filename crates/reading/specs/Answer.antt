@@ -29,6 +29,11 @@ abbrev pub reading_of : Result (ℕ × ℕ) Refusal → Reading ℕ
 reading_of (Ok (value, next)) = got value next
 reading_of (Err r) = refusal (refusal_number r) r.place
 
+-- the same of an answer that is a place alone: nothing was read but what lies before it
+abbrev pub behind_of : Result ℕ Refusal → Reading ℕ
+behind_of (Ok next) = got 0 next
+behind_of (Err r) = refusal (refusal_number r) r.place
+
 -- the same of an answer of which two numbers are told
 abbrev pub reading_by : {A : Type 0} → (A → ℕ × ℕ) → Result A Refusal → Reading ℕ
 reading_by told (Ok a) = got (told a).0 (told a).1

@@ -44,7 +44,7 @@ impl fmt::Display for Refusal {
     }
 }
 
-// What reading finds: what was read, and the place behind it.
+// What reading finds: what was read and the place behind it, or the first fault.
 pub type Reading = Result<(usize, usize), Refusal>;
 
 // Refusals of the question are those of the book and ten.

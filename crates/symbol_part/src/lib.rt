@@ -4,7 +4,7 @@
 ghost use Rattle.std.specs.Prelude.{◌≡◌, ℕ, ◌+◌, ◌-◌, ◌<◌, ◌≤◌, length, get_or, IfOk};
 ghost use Rattle.symbol_part.specs.declared.SymbolPart.{SymbolPart};
 ghost use Rattle.limits.specs.Sizes.{most_book_bytes, most_symbols, sorts_of_a_byte};
-ghost use Rattle.reading.specs.Answer.{reading_of, reading_by, keeping, nothing};
+ghost use Rattle.reading.specs.Answer.{behind_of, reading_of, reading_by, keeping, nothing};
 ghost use Rattle.symbols.specs.Symbols.{Symbols};
 ghost use Rattle.symbols.specs.SymbolPart.{sorts_at, symbol_at, symbols_at, opened, symbol_part};
 ghost use Rattle.symbols.specs.SymbolsRead.{symbols_read_at, symbols_read};
@@ -34,23 +34,22 @@ pub struct SymbolPart {
 }
 
 // n argument sorts from p on: the place behind them.
-fn read_sorts(s: &[u8], n: usize, p: usize) -> Reading
+fn read_sorts(s: &[u8], n: usize, p: usize) -> Result<usize, Refusal>
     requires { p + n ≤ length s.now }
-    ensures { reading_of result ≡ keeping nothing (sorts_at s.now n p) }
+    ensures { behind_of result ≡ keeping nothing (sorts_at s.now n p) }
 {
-    if n == 0 {
-        return Ok((0, p));
+    for q in p..p + n {
+        if Limits::LAST_SORT < byte(s, q) {
+            return Err(Fault::Symbol.at(Asker::Book, q));
+        }
     }
-    if Limits::LAST_SORT < byte(s, p) {
-        return Err(Fault::Symbol.at(Asker::Book, p));
-    }
-    read_sorts(s, n - 1, p + 1)
+    Ok(p + n)
 }
 
 // One symbol at p, with `before` symbols in front of it, in a part that ends at e: the place behind it.
-fn read_symbol(s: &[u8], e: usize, before: usize, p: usize) -> Reading
+fn read_symbol(s: &[u8], e: usize, before: usize, p: usize) -> Result<usize, Refusal>
     requires { (p < e) × (e ≤ length s.now) × (e ≤ most_book_bytes) }
-    ensures { reading_of result ≡ keeping nothing (symbol_at s.now e before p) }
+    ensures { behind_of result ≡ keeping nothing (symbol_at s.now e before p) }
 {
     let n = wide_byte(s, p);
     if e < p + 1 + n {
@@ -88,7 +87,7 @@ fn read_symbols(
     if e <= p {
         return Ok((before, p));
     }
-    let (_, next) = read_symbol(s, e, before, p)?;
+    let next = read_symbol(s, e, before, p)?;
     at[before] = p as u16;
     read_symbols(s, e, before + 1, next, at)
 }
@@ -175,7 +174,7 @@ fn count_symbols(s: &[u8], e: usize, before: usize, p: usize) -> usize
         return before;
     }
     match read_symbol(s, e, before, p) {
-        Ok((_, next)) => count_symbols(s, e, before + 1, next),
+        Ok(next) => count_symbols(s, e, before + 1, next),
         Err(_) => before,
     }
 }
