@@ -139,9 +139,9 @@ impl<'a> Rows<'a> {
         let last = b - 1;
         let mut p = at;
         for i in a..last {
-            p = self.put_next(room, p, self.to[i] as usize, above);
+            p = self.put_next(room, p, usize::from(self.to[i]), above);
         }
-        self.put_last(room, p, self.to[last] as usize, above)
+        self.put_last(room, p, usize::from(self.to[last]), above)
     }
 
     // A rule of these broader terms, "or fail where there are none", with its length in front.
@@ -165,8 +165,8 @@ impl<'a> Rows<'a> {
     {
         let mut p = at;
         for x in 0..self.n {
-            let a = self.from[x] as usize;
-            let b = self.from[x + 1] as usize;
+            let a = usize::from(self.from[x]);
+            let b = usize::from(self.from[x + 1]);
             p = self.put_rule(room, p, a, b, above);
         }
         p

@@ -21,14 +21,14 @@ put_rule-p-requires c =
     let split = rules-more a.self.from.now a.self.to.now a.above a.self.n l.x less in
     let first = rule_laid a.above a.self.n (bytes_of a.self.to.now (get_or a.self.from.now l.x 0) (get_or a.self.from.now (l.x + 1) 0)) in
     let rest = rules_laid a.above a.self.n (broader_rows a.self.from.now a.self.to.now (a.self.n - (l.x + 1)) (l.x + 1)) in
-    (hold_row a.self.from.now a.self.to.now a.self.n a.self.holding l.x less, left-fits first rest split l.invariant.1 c.requires)
+    rw (c.from-a.ensures, c.from-b.ensures) (hold_row a.self.from.now a.self.to.now a.self.n a.self.holding l.x less, left-fits first rest split l.invariant.1 c.requires)
 
 pub loop-x-preserved : goal.loop-x-preserved
 loop-x-preserved c =
     let l = c.loop-x in
     let a = c.args in
     let split = rules-more a.self.from.now a.self.to.now a.above a.self.n l.x c.loop-x-test.true in
-    (omega arith, left-put split l.invariant.1 c.put_rule-p.ensures)
+    (omega arith, left-put split l.invariant.1 (rw (c.from-a.ensures, c.from-b.ensures) at c.put_rule-p.ensures))
 
 pub shape_of-room : goal.shape_of-room
 shape_of-room c = left-same c.loop-x.invariant.1
