@@ -10,6 +10,7 @@ use tables::{Fields, at_most, checksum_of, for_each_row, read_full, show_item};
 // How many totals there are, lent or not.
 const TOTALS: usize = 1100;
 
+// Each program over a table has these three lines. One function for them would be called with the size and the closure all the same, and hide what is read.
 fn main(rt: HostRuntime) -> io::Result<()> {
     let mut input = [0u8; 131072];
     let n = read_full(&mut rt.stdin(), &mut input)?;
