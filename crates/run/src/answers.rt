@@ -6,7 +6,7 @@ ghost use Rattle.machine.specs.Answers.{decision_numbers, two_bytes_each};
 ghost use Rattle.standing.specs.Held.{Decided, written_at};
 ghost use Rattle.run.specs.AnswerContracts.{SymbolsAsked, SymbolsTold, RowAsked, RowTold, RecordAsked, RecordTold};
 
-use super::walk::{Indexed, wide};
+use super::walk::{Graph, wide};
 use limits::{Decisions, Limits, Side};
 use nodes::{Kind, arrow_at, follow, kind_at, label_at};
 use symbols::table::arity_of;
@@ -22,36 +22,26 @@ fn put_two(bytes: &mut [u8], p: usize, n: usize)
 
 // The symbols from where an arrow leads down, two bytes each, from p on: the place behind. `depth` bounds how deep they stand.
 #[cycle(put_row_put_symbols)]
-fn put_symbols(
-    book: &Indexed,
-    nodes: &[u16],
-    used: usize,
-    bytes: &mut [u8],
-    depth: usize,
-    arrow: u16,
-    p: usize,
-) -> usize
-    requires { SymbolsAsked book.now.bytes.now book.now.table.now nodes.now used bytes.old depth arrow p }
-    ensures { SymbolsTold book.now.bytes.now book.now.table.now nodes.now used bytes.old depth arrow p result bytes.new }
+fn put_symbols(graph: &Graph, bytes: &mut [u8], depth: usize, arrow: u16, p: usize) -> usize
+    requires { SymbolsAsked graph.now bytes.old depth arrow p }
+    ensures { SymbolsTold graph.now bytes.old depth arrow p result bytes.new }
 {
     if depth == 0 {
         return p;
     }
-    let n = follow(nodes, used, arrow);
-    if kind_at(nodes, n) != Kind::Apply as u16 {
+    let n = follow(graph.nodes, graph.used, arrow);
+    if kind_at(graph.nodes, n) != Kind::Apply as u16 {
         return p;
     }
-    let f = wide(label_at(nodes, n));
+    let f = wide(label_at(graph.nodes, n));
     put_two(bytes, p, f);
     put_row(
-        book,
-        nodes,
-        used,
+        graph,
         bytes,
         depth - 1,
         n,
         0,
-        arity_of(book.bytes, book.table, f),
+        arity_of(graph.book.bytes, graph.book.table, f),
         p + 2,
     )
 }
@@ -59,9 +49,7 @@ fn put_symbols(
 // The same of the arguments of node n, from the j-th on.
 #[cycle(put_row_put_symbols)]
 fn put_row(
-    book: &Indexed,
-    nodes: &[u16],
-    used: usize,
+    graph: &Graph,
     bytes: &mut [u8],
     depth: usize,
     n: u16,
@@ -69,15 +57,15 @@ fn put_row(
     arity: usize,
     p: usize,
 ) -> usize
-    requires { RowAsked book.now.bytes.now book.now.table.now nodes.now used bytes.old depth n j arity p }
-    ensures { RowTold book.now.bytes.now book.now.table.now nodes.now used bytes.old depth n j p result bytes.new }
+    requires { RowAsked graph.now bytes.old depth n j arity p }
+    ensures { RowTold graph.now bytes.old depth n j p result bytes.new }
 {
     if arity <= j {
         return p;
     }
-    let arrow = arrow_at(nodes, n, j as u16);
-    let q = put_symbols(book, nodes, used, bytes, depth, arrow, p);
-    put_row(book, nodes, used, bytes, depth, n, j + 1, arity, q)
+    let arrow = arrow_at(graph.nodes, n, j as u16);
+    let q = put_symbols(graph, bytes, depth, arrow, p);
+    put_row(graph, bytes, depth, n, j + 1, arity, q)
 }
 
 // The numbers of the decided choices, in rising order, two bytes each, from p on.
@@ -103,9 +91,7 @@ fn put_decisions(bytes: &mut [u8], ds: Decisions, from: usize)
 
 // The record of a value of so many symbols, `size` bytes in all, from p on.
 pub(crate) fn put_record(
-    book: &Indexed,
-    nodes: &[u16],
-    used: usize,
+    graph: &Graph,
     bytes: &mut [u8],
     root: u16,
     ds: Decisions,
@@ -113,11 +99,11 @@ pub(crate) fn put_record(
     size: usize,
     p: usize,
 )
-    requires { RecordAsked book.now.bytes.now book.now.table.now nodes.now used bytes.old root ds symbols size p }
-    ensures { RecordTold book.now.bytes.now book.now.table.now nodes.now used bytes.old root ds p bytes.new }
+    requires { RecordAsked graph.now bytes.old root ds symbols size p }
+    ensures { RecordTold graph.now bytes.old root ds p bytes.new }
 {
     put_two(bytes, p, size - 2);
     put_two(bytes, p + 2, symbols);
-    let q = put_symbols(book, nodes, used, bytes, Limits::DEPTH + 1, root, p + 4);
+    let q = put_symbols(graph, bytes, Limits::DEPTH + 1, root, p + 4);
     put_decisions(bytes, ds, q);
 }

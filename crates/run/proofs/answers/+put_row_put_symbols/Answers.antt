@@ -28,7 +28,7 @@ put_row-overflow_cast-j t c =
 -- the argument that comes next
 put-row-next : (t : ℕ) (c : put_row-After-arrow_at-arrow t)
     → let start = c in
-    AtArgument c.args.used c.requires.0 c.args.depth c.args.n c.args.j c.arrow_at-arrow.result
+    AtArgument c.args.graph.now.used c.requires.0 c.args.depth c.args.n c.args.j c.arrow_at-arrow.result
 put-row-next t c =
     let c = c in
     let a = c.args in
@@ -78,7 +78,7 @@ put_symbols-returns-then-kind_at t c =
 put-symbols-found : (t : ℕ) (c : put_symbols-Else-kind_at t)
     → let start = c in
     let a = c.args in
-    AtApply (arity_by a.book.now.bytes.now a.book.now.table.now) a.nodes.now a.used c.requires.0 a.depth a.arrow c.follow-n.result
+    AtApply (arity_by a.graph.now.book.bytes.now a.graph.now.book.table.now) a.graph.now.nodes.now a.graph.now.used c.requires.0 a.depth a.arrow c.follow-n.result
 put-symbols-found t c =
     let c = c in
     let a = c.args in
@@ -103,7 +103,7 @@ put_symbols-put_row-requires t c =
         pre.0,
         pre.1,
         found.inside,
-        c.arity_of.ensures.0 ∙ ap (arity_by a.book.now.bytes.now a.book.now.table.now) label ∙ found.many,
+        c.arity_of.ensures.0 ∙ ap (arity_by a.graph.now.book.bytes.now a.graph.now.book.table.now) label ∙ found.many,
         omega (arith, pre.3, c.put_two.auto.bytes, ap length found.symbols),
       ),
     )
