@@ -14,6 +14,7 @@ const NUMBERS: usize = 32010;
 
 const BYTES: usize = 16400;
 
+// Each program over a table has these three lines. One function for them would be called with the size and the closure all the same, and hide what is read.
 fn main(rt: HostRuntime) -> io::Result<()> {
     let mut input = [0u8; 65536];
     let n = read_full(&mut rt.stdin(), &mut input)?;
