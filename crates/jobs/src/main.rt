@@ -11,6 +11,7 @@ use tables::{Fields, for_each_row, read_full};
 // The room for answers.
 const ANSWER_BYTES: usize = 16384;
 
+// Each program over a table has these three lines. One function for them would be called with the size and the closure all the same, and hide what is read.
 fn main(rt: HostRuntime) -> io::Result<()> {
     let mut input = [0u8; 131072];
     let n = read_full(&mut rt.stdin(), &mut input)?;
