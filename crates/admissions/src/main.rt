@@ -2,7 +2,10 @@
 // both are admitted, and its label. tools/admission_cases.py makes the table and says what document 01 has for each row.
 #![tactic(auto)]
 
-use book::read_book;
+ghost use Rattle.std.specs.Prelude.{IfOk};
+ghost use Rattle.tables.specs.Rows.{TakesSome};
+
+use book::index_book;
 use question::read_question;
 use reading::Reading;
 use std::io;
@@ -16,7 +19,9 @@ fn main(rt: HostRuntime) -> io::Result<()> {
 }
 
 // One row: its label, its book and its question, each behind its length.
-fn show_row(rt: &impl Print, row: &mut Fields<'_>) -> io::Result<()> {
+fn show_row(rt: &impl Print, row: &mut Fields<'_>) -> io::Result<()>
+    ensures { IfOk result (λ done. TakesSome row.old row.new) }
+{
     let label = row.field();
     let book = row.field();
     match verdict(book, row.field()) {
@@ -28,6 +33,8 @@ fn show_row(rt: &impl Print, row: &mut Fields<'_>) -> io::Result<()> {
 }
 
 fn verdict<'a>(book: &'a [u8], question: &'a [u8]) -> Reading {
-    let index = read_book(book)?;
-    read_question(book, &index.at[..index.count], question)
+    let index = index_book(book);
+    let (count, _) = index.reading?;
+    let at = index.at;
+    read_question(book, &at[..count], question)
 }

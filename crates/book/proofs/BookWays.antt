@@ -105,25 +105,28 @@ tabled known = record {
 
 -- ---- the ways
 
--- what a book's reading is answered by, and its three arrays where it was read
+-- what a book's reading is answered by, and its three arrays
 pub record Answered (bs : List ℕ) (r : Reading ℕ) (places info ends : List ℕ) : Type 0 where
   pub answer : r ≡ keeping (λ (x : Rules). length x.symbols) (read_book bs)
   pub table : places ≡ at_after (read_book bs)
   pub found : info ≡ info_after (read_book bs)
   pub marks : ends ≡ ends_after (read_book bs)
 
--- a book that is refused
-refused-book : (bs : List ℕ) {c q : ℕ} → read_book bs ≡ refusal c q → refusal c q ≡ keeping (λ (x : Rules). length x.symbols) (read_book bs)
-unfolding keeping
-refused-book bs e = rw (e, keeping)
+-- a book that is refused: its arrays are zeros
+refused-book : (bs : List ℕ) {c q : ℕ} → read_book bs ≡ refusal c q
+    → Answered bs (refusal c q) (replicate most_symbols 0) (replicate most_symbols 0) (replicate most_book_bytes 0)
+unfolding keeping at_after info_after ends_after in_array
+refused-book bs e = record { answer = rw (e, keeping); table = rw (e, at_after); found = rw (e, info_after); marks = rw (e, ends_after) }
 
 module _ (bs : List ℕ) where
-  pub symbols-refused : {c q : ℕ} → refusal c q ≡ keeping length (symbol_part bs) → refusal c q ≡ keeping (λ (x : Rules). length x.symbols) (read_book bs)
+  pub symbols-refused : {c q : ℕ} → refusal c q ≡ keeping length (symbol_part bs)
+      → Answered bs (refusal c q) (replicate most_symbols 0) (replicate most_symbols 0) (replicate most_book_bytes 0)
   unfolding read_book
   symbols-refused told = refused-book bs (then-refusal _ (kept-refusal length (symbol_part bs) told))
 
   module _ {symbols : Symbols} {p : ℕ} (part : symbol_part bs ≡ got symbols p) where
-    pub trees-refused : {c q : ℕ} → refusal c q ≡ keeping nothing (tree_part bs symbols p) → refusal c q ≡ keeping (λ (x : Rules). length x.symbols) (read_book bs)
+    pub trees-refused : {c q : ℕ} → refusal c q ≡ keeping nothing (tree_part bs symbols p)
+        → Answered bs (refusal c q) (replicate most_symbols 0) (replicate most_symbols 0) (replicate most_book_bytes 0)
     unfolding read_book
     trees-refused told = refused-book bs (then-got _ part ∙ then-refusal _ (kept-refusal nothing (tree_part bs symbols p) told))
 

@@ -187,6 +187,11 @@ module _ (bs : List ℕ) (S : Symbols) (p : ℕ) where
   unfolding keeping
   refused-part whole = rw (whole, keeping)
 
+  -- where it is refused there is no index
+  pub none-indexed : {c q : ℕ} → refusal c q ≡ keeping nothing (tree_part bs S p) → (info' info ends' ends : List ℕ) → Indexed (p + 2) 0 S (tree_part bs S p) info' info ends' ends
+  unfolding Indexed
+  none-indexed told info' info ends' ends = rw (kept-refusal nothing (tree_part bs S p) told, Indexed) tt
+
   pub part_unopened : {c q : ℕ} → refusal c q ≡ length_at bs 0 (length bs) p → refusal c q ≡ keeping nothing (tree_part bs S p)
   unfolding tree_part
   part_unopened r = refused-part (then-refusal _ (sym r))

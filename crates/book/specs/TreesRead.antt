@@ -1,7 +1,7 @@
 -- What the reader of trees asks, and what it answers: the reading of the definition (TreeAt.antt) without its trees, and their ends marked.
-use Rattle.std.specs.Prelude.{false, List, ◌++◌, ◌≡◌, ℕ, ◌+◌, get_or, Result, IfOk}
+use Rattle.std.specs.Prelude.{false, List, ◌++◌, ◌≡◌, ℕ, ◌+◌, get_or, Result}
 use Rattle.reading.specs.Reading.{Reading}
-use Rattle.reading.specs.Answer.{behind_of, reading_by, keeping, nothing}
+use Rattle.reading.specs.Answer.{behind_of, keeping, nothing}
 use Rattle.reading.specs.declared.Refusal.{Refusal}
 use Rattle.symbols.specs.Symbols.{Symbols, constructors_of}
 use Rattle.symbols.specs.Table.{symbols_in, symbol_in}
@@ -10,7 +10,6 @@ use Rattle.book.specs.TreeAt.{binds_past, trees_with, tree_in, item_at, trees_of
 use Rattle.book.specs.Reader.{vars_of, Branched, Marked, MarkedRow, Indexed}
 use Rattle.book.specs.declared.path.Path.{Path}
 use Rattle.book.specs.declared.table.Table.{Table}
-use Rattle.book.specs.declared.trees.TreePart.{TreePart}
 
 -- the symbols that a table means
 abbrev pub symbols_of : Table → Symbols
@@ -60,8 +59,8 @@ module _ (table : Table) where
       (behind_of r ≡ keeping nothing (trees_of table.book.now (symbols_of table) e (symbols_of table) p))
       × Indexed p 0 (symbols_of table) (trees_of table.book.now (symbols_of table) e (symbols_of table) p) info info' ends ends'
 
-  -- the tree part, opened at p, with nothing left over, and its index over `info` and `ends`
-  abbrev pub PartRead : ℕ → Result TreePart Refusal → List ℕ → List ℕ → Type 0
-  PartRead p r info ends =
-      (reading_by (λ (part : TreePart). (0, part.next)) r ≡ keeping nothing (tree_part table.book.now (symbols_of table) p))
-      × IfOk r (λ (part : TreePart). Indexed (p + 2) 0 (symbols_of table) (tree_part table.book.now (symbols_of table) p) info part.info ends part.ends)
+  -- the tree part, opened at p, with nothing left over, and its index
+  abbrev pub PartRead : ℕ → Answered → List ℕ → List ℕ → List ℕ → List ℕ → Type 0
+  PartRead p r info info' ends ends' =
+      (behind_of r ≡ keeping nothing (tree_part table.book.now (symbols_of table) p))
+      × Indexed (p + 2) 0 (symbols_of table) (tree_part table.book.now (symbols_of table) p) info info' ends ends'

@@ -1,6 +1,6 @@
 // The tree part. `ends` gets, at the place of each tree, the place behind it: a run hops from tree to tree by it.
-ghost use Rattle.std.specs.Prelude.{List, ◌≡◌, ℕ, ◌<◌, ◌≤◌, length, replicate};
-ghost use Rattle.limits.specs.Sizes.{most_book_bytes, most_symbols};
+ghost use Rattle.std.specs.Prelude.{List, ◌≡◌, ℕ, ◌<◌, ◌≤◌, length};
+ghost use Rattle.limits.specs.Sizes.{most_symbols};
 ghost use Rattle.reading.specs.Answer.{reading_of, keeping};
 ghost use Rattle.symbols.specs.Symbols.{constructors_of};
 ghost use Rattle.expressions.specs.ExpressionAt.{left_of, whole_at};
@@ -172,34 +172,21 @@ fn read_trees(
     Ok(p)
 }
 
-// The tree part: the place behind it; where each operation's tree stands, over the ranks of the constructors; and the ends.
-#[derive(Clone, Copy)]
-pub struct TreePart {
-    pub next: usize,
-    pub info: [u16; Limits::SYMBOLS],
-    pub ends: [u16; Limits::BOOK],
-}
-
-// The tree part, whose length stands at p, and that nothing is left.
+// The tree part, whose length stands at p, and that nothing is left: the place behind it. `info` gets the place of each operation's tree.
 pub(crate) fn read_tree_part(
     table: Table<'_>,
     p: usize,
-    ranks: [u16; Limits::SYMBOLS],
-) -> Result<TreePart, Refusal>
-    ensures { PartRead table.entry p result ranks (replicate most_book_bytes 0) }
+    info: &mut [u16; Limits::SYMBOLS],
+    ends: &mut [u16; Limits::BOOK],
+) -> Result<usize, Refusal>
+    ensures { PartRead table.entry p result info.old info.new ends.old ends.new }
 {
     let (e, q) = length_at(table.book, Asker::Book, table.book.len(), p)?;
-    let mut info = ranks;
-    let mut ends = [0u16; Limits::BOOK];
-    let behind = read_trees(table, e, q, &mut info, &mut ends)?;
+    let behind = read_trees(table, e, q, info, ends)?;
     if behind < e || behind < table.book.len() {
         return Err(Fault::Extent.at(Asker::Book, behind));
     }
-    Ok(TreePart {
-        next: behind,
-        info,
-        ends,
-    })
+    Ok(behind)
 }
 
 // How many trees of the tree part, whose length stands at p, are read whole before the first fault, or its end.

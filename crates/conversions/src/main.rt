@@ -2,6 +2,9 @@
 // tools/convert_cases.py makes the table and says what each row gives.
 #![tactic(auto)]
 
+ghost use Rattle.std.specs.Prelude.{IfOk};
+ghost use Rattle.tables.specs.Rows.{TakesSome};
+
 use converter::convert_book;
 use reading::{number, part_of};
 use std::io;
@@ -18,7 +21,9 @@ fn main(rt: HostRuntime) -> io::Result<()> {
 }
 
 // One row: the room lent and the label behind it, and the book.
-fn show_row(rt: &impl Print, row: &mut Fields<'_>) -> io::Result<()> {
+fn show_row(rt: &impl Print, row: &mut Fields<'_>) -> io::Result<()>
+    ensures { IfOk result (λ done. TakesSome row.old row.new) }
+{
     let lent = number(row.left, 2);
     let label = row.field();
     rt.write_all(part_of(label, 2, label.len()))?;
@@ -28,10 +33,11 @@ fn show_row(rt: &impl Print, row: &mut Fields<'_>) -> io::Result<()> {
 fn show_conversion(rt: &impl Print, book: &[u8], lent: usize) -> io::Result<()> {
     let mut room = [170u8; BYTES];
     let length = at_most(lent, BYTES);
-    match convert_book(book, &mut room[..length]) {
-        Ok(written) => print!(rt; ": 0 0 {written}")?,
-        Err(refusal) => print!(rt; ": {refusal} 0")?,
-    }
+    let told = convert_book(book, &mut room[..length]);
     // of the whole room, lent or not
-    println!(rt; "; bytes {}", checksum_of(&room))
+    let sum = checksum_of(&room);
+    match told {
+        Ok(written) => println!(rt; ": 0 0 {written}; bytes {sum}"),
+        Err(refusal) => println!(rt; ": {refusal} 0; bytes {sum}"),
+    }
 }

@@ -11,7 +11,7 @@ ghost use Rattle.converter.specs.declared.Refusal.TheVariants.{Unread};
 mod made;
 mod put;
 
-use book::read_book;
+use book::index_book;
 use limits::Limits;
 use made::Old;
 use reading::{Asker, Fault, byte};
@@ -89,7 +89,8 @@ pub fn convert_book(book: &[u8], room: &mut [u8]) -> Result<usize, Refusal>
     if byte(book, 0) == 2 {
         return Err(Refusal::Unread(Fault::Version.at(Asker::Book, 0)));
     }
-    let index = read_book(book)?;
-    let ends = &index.ends;
-    lay(Old { book, ends }, room)
+    let index = index_book(book);
+    index.reading?;
+    let ends = index.ends;
+    lay(Old { book, ends: &ends }, room)
 }

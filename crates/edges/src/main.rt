@@ -3,6 +3,9 @@
 // each answer. tools/edge_cases.py makes the table and says what document 01 has for each row.
 #![tactic(auto)]
 
+ghost use Rattle.std.specs.Prelude.{IfOk};
+ghost use Rattle.tables.specs.Rows.{TakesSome};
+
 use limits::{Decisions, Entry, Limits};
 use lines::{show_answers, show_result};
 use run::{Owned, run_owned};
@@ -22,7 +25,9 @@ fn main(rt: HostRuntime) -> io::Result<()> {
 }
 
 // One row: its label, its sizes and fuel (ten bytes), its book and its question.
-fn show_row(rt: &impl Print, row: &mut Fields<'_>) -> io::Result<()> {
+fn show_row(rt: &impl Print, row: &mut Fields<'_>) -> io::Result<()>
+    ensures { IfOk result (λ done. TakesSome row.old row.new) }
+{
     rt.write_all(row.field())?;
     let given = row.bytes(10);
     let book = row.field();

@@ -2,6 +2,9 @@
 // table and says what each row gives.
 #![tactic(auto)]
 
+ghost use Rattle.std.specs.Prelude.{IfOk};
+ghost use Rattle.tables.specs.Rows.{TakesSome};
+
 use lines::expand;
 use std::io;
 use tables::{Fields, for_each_row, read_full};
@@ -14,7 +17,9 @@ fn main(rt: HostRuntime) -> io::Result<()> {
 }
 
 // One row: its label, and an input.
-fn show_row(rt: &impl Print, row: &mut Fields<'_>) -> io::Result<()> {
+fn show_row(rt: &impl Print, row: &mut Fields<'_>) -> io::Result<()>
+    ensures { IfOk result (λ done. TakesSome row.old row.new) }
+{
     rt.write_all(row.field())?;
     rt.write_all(b"\n")?;
     expand(rt, row.field())

@@ -2,6 +2,9 @@
 // after it, with a checksum of all of them. tools/figure_cases.py makes the table and says what each row gives.
 #![tactic(auto)]
 
+ghost use Rattle.std.specs.Prelude.{IfOk};
+ghost use Rattle.tables.specs.Rows.{TakesSome};
+
 use figures::add_figures;
 use reading::{number, part_of};
 use std::io;
@@ -18,7 +21,9 @@ fn main(rt: HostRuntime) -> io::Result<()> {
 }
 
 // One row: how many totals are lent and the label, the totals before, and the books.
-fn show_row(rt: &impl Print, row: &mut Fields<'_>) -> io::Result<()> {
+fn show_row(rt: &impl Print, row: &mut Fields<'_>) -> io::Result<()>
+    ensures { IfOk result (λ done. TakesSome row.old row.new) }
+{
     let lent = number(row.left, 2);
     let label = row.field();
     rt.write_all(part_of(label, 2, label.len()))?;

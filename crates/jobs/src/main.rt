@@ -2,6 +2,9 @@
 // (request L13). For each it prints the seven numbers of the result. tools/job_cases.py makes the jobs, tools/speed measures.
 #![tactic(auto)]
 
+ghost use Rattle.std.specs.Prelude.{IfOk};
+ghost use Rattle.tables.specs.Rows.{TakesSome};
+
 use limits::{Entry, Limits};
 use lines::show_result;
 use run::{Owned, run_owned};
@@ -19,7 +22,9 @@ fn main(rt: HostRuntime) -> io::Result<()> {
 }
 
 // A book, how many questions it is asked, and these with their fuels.
-fn run_book(rt: &impl Print, row: &mut Fields<'_>) -> io::Result<()> {
+fn run_book(rt: &impl Print, row: &mut Fields<'_>) -> io::Result<()>
+    ensures { IfOk result (λ done. TakesSome row.old row.new) }
+{
     let book = row.field();
     for _ in 0..row.number() {
         let question = row.field();

@@ -1,18 +1,21 @@
 -- What is said of a node, by its kind, as the code reads it.
+use mathlib.Core.Bool.{Bool, true, false}
 use mathlib.Core.List.{List}
 use mathlib.Core.Path.{◌≡◌, refl, sym, ap, ◌∙◌}
 use Prim.Native.Nat.{ℕ, zero, suc, ◌<◌, ◌≤◌}
 use native.Mathlib.Omega.{arith}
 use borrow.Author.Tests.{lt-ltb, le-ltb}
+use lib.Dec.{ltb}
 use lib.ListN.{length, get_or}
 use Rattle.symbols.specs.Symbols.{Symbol, Symbols}
 use Rattle.symbols.specs.Table.{symbol_in, symbols_in}
 use Rattle.symbols.proofs.Tables.{symbol-there, as_many}
+use Rattle.nodes.specs.Nodes.{Node, apply, choice, fail, forward}
 use Rattle.nodes.specs.Numbers.{kind_in, label_in, arrow_in}
 use Rattle.sorts.specs.Sorts.{sort_of}
 use Rattle.accepted.specs.Read.{node_by, node_in}
 use Rattle.judging.specs.declared.said.Said.{Said}
-use Rattle.judging.specs.declared.said.Said.TheVariants.{Nothing, One}
+use Rattle.judging.specs.declared.said.Said.TheVariants.{Nothing, One, Several}
 use Rattle.judging.specs.Sorts.{joined, met_by}
 
 module _ (book table m : List ℕ) (met : List Said) (n : ℕ) (own : Said) where
@@ -21,6 +24,21 @@ module _ (book table m : List ℕ) (met : List Said) (n : ℕ) (own : Said) wher
 
   abbrev said : Said
   said = met_by S met own (node_in S m n)
+
+  -- nothing more can be said of some sorts
+  pub said_several : own ≡ Several → own ≡ said
+  unfolding met_by joined
+  said_several e = rw e (by (node_in S m n))
+    where
+      sort : (b : Bool) (s : ℕ) → Several ≡ elim b [ true ↦ joined Several (One s) | false ↦ Several ]
+      sort true s = refl
+      sort false s = refl
+
+      by : (x : Node) → Several ≡ met_by S met Several x
+      by (apply f xs) = sort (ltb f (length S)) (sort_of S f)
+      by (choice i l r) = refl
+      by fail = refl
+      by (forward t) = refl
 
   pub said_known : (kind f s : ℕ) (r : Said) → kind ≡ kind_in m n → kind ≡ 0 → f ≡ label_in m n → f < length table
       → s ≡ (symbol_in book (get_or table f 0)).sort

@@ -8,7 +8,7 @@ use nodes::arrow_at;
 
 // How far the walk has come.
 #[derive(Drop)]
-struct Walk {
+struct Walk<'a> {
     // The next node to start from.
     start: u16,
     // How many nodes are met.
@@ -22,15 +22,20 @@ struct Walk {
     // number that it is known to lead to.
     next: [u16; Limits::NODES],
     first: [u16; Limits::NODES],
-    ranks: [u16; Limits::NODES],
+    ranks: &'a mut [u16],
 }
 
-impl Walk {
+impl<'a> Walk<'a> {
+    // Whether it stands nowhere, and there is no node to start from.
+    fn is_done(&self, used: usize) -> bool {
+        used <= usize::from(self.start) && self.path.height == 0
+    }
+
     // The walk goes to node x, which it has not met, and numbers it.
     fn enter(&mut self, x: u16) {
         self.met = self.met.saturating_add(1);
         put_at(&mut self.first, x, self.met);
-        put_at(&mut self.ranks, x, self.met);
+        put_at(self.ranks, x, self.met);
         self.path.push(x);
         self.held.push(x);
     }
@@ -38,7 +43,7 @@ impl Walk {
     // The nodes held, down to node v, get their rank.
     fn give_rank(&mut self, v: u16) {
         while let Some(x) = self.held.pop() {
-            put_at(&mut self.ranks, x, self.rank);
+            put_at(self.ranks, x, self.rank);
             if x == v {
                 break;
             }
@@ -50,22 +55,22 @@ impl Walk {
     // on circles with it.
     fn leave(&mut self, v: u16) {
         self.path.pop();
-        if number_of(&self.ranks, v) == number_of(&self.first, v) {
+        if number_of(self.ranks, v) == number_of(&self.first, v) {
             self.give_rank(v);
         }
     }
 
     // Whether node x is one of the first `used` that is not met.
     fn is_new(&self, used: usize, x: u16) -> bool {
-        usize::from(x) < used && number_of(&self.ranks, x) == 0
+        usize::from(x) < used && number_of(self.ranks, x) == 0
     }
 
     // Where an arrow of v leads to x, v gets the lower number of the two.
     fn lower(&mut self, used: usize, v: u16, x: u16) {
         if usize::from(x) < used {
-            let low = number_of(&self.ranks, x);
-            if low < number_of(&self.ranks, v) {
-                put_at(&mut self.ranks, v, low);
+            let low = number_of(self.ranks, x);
+            if low < number_of(self.ranks, v) {
+                put_at(self.ranks, v, low);
             }
         }
     }
@@ -98,8 +103,9 @@ impl Walk {
     }
 }
 
-// The ranks of the nodes. A node takes a step to start from it, one to go to it, one for each arrow, eight at most, and one back.
-pub(crate) fn ranks_of(at: Judged) -> [u16; Limits::NODES] {
+// The ranks of the nodes, which all have rank 0 before. A node takes a step to start from it, one to go to it, one for each arrow, eight at
+// most, and one back.
+pub(crate) fn rank_all(at: Judged, ranks: &mut [u16]) {
     let mut walk = Walk {
         start: 0,
         met: 0,
@@ -108,10 +114,12 @@ pub(crate) fn ranks_of(at: Judged) -> [u16; Limits::NODES] {
         held: Stack::new(),
         next: [0; Limits::NODES],
         first: [0; Limits::NODES],
-        ranks: [0; Limits::NODES],
+        ranks,
     };
     for _ in 0..11 * at.used {
+        if walk.is_done(at.used) {
+            break;
+        }
         walk.step(at);
     }
-    walk.ranks
 }

@@ -2,6 +2,9 @@
 // room, and what is told when it is saved, with each number of the row that was written. tools/listing_cases.py makes the table and says what each row gives.
 #![tactic(auto)]
 
+ghost use Rattle.std.specs.Prelude.{IfOk};
+ghost use Rattle.tables.specs.Rows.{TakesSome};
+
 use circles::save_listing;
 use listings::write_listing;
 use std::io;
@@ -23,7 +26,9 @@ fn main(rt: HostRuntime) -> io::Result<()> {
 }
 
 // One row: how many bytes and numbers are lent, the listing's length in four bytes, and the listing.
-fn show_row(rt: &impl Print, row: &mut Fields<'_>) -> io::Result<()> {
+fn show_row(rt: &impl Print, row: &mut Fields<'_>) -> io::Result<()>
+    ensures { IfOk result (λ done. TakesSome row.old row.new) }
+{
     let bytes = row.number();
     let numbers = row.number();
     let length = row.long_number();

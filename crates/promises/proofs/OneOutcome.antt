@@ -31,7 +31,9 @@ use Rattle.expressions.specs.declared.Code.{Code}
 use Rattle.expressions.specs.declared.Code.TheVariants.{Variable, Apply, Choice, Fail, Shared}
 use Rattle.expressions.specs.Codes.{number_of as code_number}
 use Rattle.symbol_part.specs.declared.SymbolPart.{SymbolPart}
+use Rattle.symbol_part.specs.declared.SymbolRows.{SymbolRows}
 use Rattle.book.specs.declared.BookIndex.{BookIndex}
+use Rattle.book.specs.declared.BookRead.{BookRead}
 use Rattle.writer.specs.declared.Refusal.{Refusal as WriterRefusal}
 use Rattle.writer.specs.Write.{Outcome as Writing}
 use Rattle.writer.specs.InCode.{after as written_as}
@@ -159,6 +161,14 @@ one-code b (Some c) None one other = absurd (omega (arith, one, other, code_in_f
 one-code b None (Some c) one other = absurd (omega (arith, one, other, code_in_few c))
 one-code b None None one other = refl
 
+-- the rows of the symbol part, field by field
+pub one-symbol-rows : {t : Reading ℕ} {at ranks next first : List ℕ} (r r' : SymbolRows)
+    → (reading_of r.reading ≡ t) × (r.at ≡ at) × (r.ranks ≡ ranks) × (r.chain.next ≡ next) × (r.chain.first ≡ first)
+    → (reading_of r'.reading ≡ t) × (r'.at ≡ at) × (r'.ranks ≡ ranks) × (r'.chain.next ≡ next) × (r'.chain.first ≡ first)
+    → r ≡ r'
+one-symbol-rows r r' (reading, at, ranks, next, first) (reading', at', ranks', next', first') =
+    rw (one_reading r.reading r'.reading reading reading', at, ranks, next, first, at', ranks', next', first') refl
+
 -- the symbol part, field by field
 module _ (at ranks next first : List ℕ) where
   abbrev pub PartIs : SymbolPart → Type 0
@@ -172,6 +182,14 @@ module _ (at ranks next first : List ℕ) where
       → (reading_by (λ p. (p.count, p.next)) r ≡ t) × IfOk r PartIs → (reading_by (λ p. (p.count, p.next)) r' ≡ t) × IfOk r' PartIs → r ≡ r'
   one-symbol-part r r' (reading, arrays) (reading', arrays') =
       same_told (λ p. (p.count, p.next)) PartIs one_part r r' arrays arrays' (one_value reading reading')
+
+-- a book as it was read, field by field
+pub one_book_read : {t : Reading ℕ} {at info ends : List ℕ} (r r' : BookRead)
+    → (reading_of r.reading ≡ t) × (r.at ≡ at) × (r.info ≡ info) × (r.ends ≡ ends)
+    → (reading_of r'.reading ≡ t) × (r'.at ≡ at) × (r'.info ≡ info) × (r'.ends ≡ ends)
+    → r ≡ r'
+one_book_read r r' (reading, at, info, ends) (reading', at', info', ends') =
+    rw (one_reading r.reading r'.reading reading reading', at, info, ends, at', info', ends') refl
 
 -- the index of a book, field by field
 module _ (at info ends : List ℕ) where

@@ -24,10 +24,12 @@ use Rattle.symbols.specs.contracts.table.is_operation as is-operation
 use Rattle.symbols.specs.contracts.table.sort_of as sort-of
 use Rattle.symbols.specs.contracts.table.arguments_of as arguments_of
 use Rattle.symbols.specs.contracts.table.arity_of as arity-of
+use Rattle.symbol_part.specs.contracts.symbol_rows as symbol-rows
 use Rattle.symbol_part.specs.contracts.read_symbol_part as read-symbol-part
 use Rattle.symbol_part.specs.contracts.symbols_read as symbols-read
 use Rattle.expressions.specs.contracts.read_whole as read_whole
 use Rattle.expressions.specs.contracts.Code.of as code-of
+use Rattle.book.specs.contracts.index_book as index-book
 use Rattle.book.specs.contracts.read_book as read-book
 use Rattle.question.specs.contracts.read_question as read-question
 use Rattle.book.specs.contracts.rows_read as rows-read
@@ -66,7 +68,7 @@ use Rattle.run.specs.contracts.run
 use Rattle.run.specs.contracts.run_owned as run-owned
 use Rattle.promises.proofs.Contracts.{left_by}
 use Rattle.promises.proofs.OneOutcome.{OneOutcome, OneResult, by_claim, one_value, one_bounded, one_set, one-row, one_reading}
-use Rattle.promises.proofs.OneOutcome.{by_both, one-code, one-symbol-part, one_index, one_written, one-converted, one-listed, one-saved, one_added, one_less, one_figured, one-run, one_owned}
+use Rattle.promises.proofs.OneOutcome.{by_both, one-code, one-symbol-rows, one-symbol-part, one_book_read, one_index, one_written, one-converted, one-listed, one-saved, one_added, one_less, one_figured, one-run, one_owned}
 
 -- crate `limits`
 pub all_open_one : OneResult all_open.ended (λ M 𝓤 𝓛. all_open.clauses 𝓛)
@@ -138,6 +140,9 @@ pub arity_of_one : OneResult arity-of.ended (λ M 𝓤 𝓛. arity-of.clauses �
 arity_of_one = by_claim arity-of.ended (λ κs a z z' e e'. one_bounded)
 
 -- crate `symbol_part`
+pub symbol-rows-one : OneResult symbol-rows.ended (λ M 𝓤 𝓛. symbol-rows.clauses 𝓛)
+symbol-rows-one = by_claim symbol-rows.ended (λ κs a z z' e e'. one-symbol-rows z z')
+
 pub read-symbol-part-one : OneResult read-symbol-part.ended (λ M 𝓤 𝓛. read-symbol-part.clauses 𝓛)
 read-symbol-part-one = by_both read-symbol-part.ended (λ κs a z z' e e'. one-symbol-part _ _ _ _ z z')
 
@@ -152,6 +157,9 @@ pub code-of-one : OneResult code-of.ended (λ M 𝓤 𝓛. code-of.clauses 𝓛)
 code-of-one = by_claim code-of.ended (λ κs a z z' e e'. one-code _ z z')
 
 -- crate `book`
+pub index-book-one : OneResult index-book.ended (λ M 𝓤 𝓛. index-book.clauses 𝓛)
+index-book-one = by_claim index-book.ended (λ κs a z z' e e'. one_book_read z z')
+
 pub read-book-one : OneResult read-book.ended (λ M 𝓤 𝓛. read-book.clauses 𝓛)
 read-book-one = by_both read-book.ended (λ κs a z z' e e'. one_index _ _ _ z z')
 

@@ -33,10 +33,11 @@ pub struct Lent<'a> {
 }
 
 impl<'a> Lent<'a> {
-    // The symbols from where an arrow leads down, two bytes each, from p on: the place behind. `depth` bounds how deep they stand.
+    // The symbols from where an arrow leads down, two bytes each, from p on: the place behind. `depth` bounds how deep they stand. Lent by `&`: by
+    // value it would be copied at each level, and the last call of a row would need its own place on the stack.
     #[cycle(put_row_put_symbols)]
-    pub(crate) fn put_symbols(self, bytes: &mut [u8], depth: usize, arrow: u16, p: usize) -> usize
-        ensures { SymbolsTold self.entry.shapes.now self.entry.nodes.now self.entry.used bytes.old depth arrow p result bytes.new }
+    pub(crate) fn put_symbols(&self, bytes: &mut [u8], depth: usize, arrow: u16, p: usize) -> usize
+        ensures { SymbolsTold self.now.shapes.now self.now.nodes.now self.now.used bytes.old depth arrow p result bytes.new }
     {
         if depth == 0 {
             return p;
@@ -53,7 +54,7 @@ impl<'a> Lent<'a> {
     // The same of the arguments of node n, from the j-th on.
     #[cycle(put_row_put_symbols)]
     fn put_row(
-        self,
+        &self,
         bytes: &mut [u8],
         depth: usize,
         n: u16,
@@ -62,7 +63,7 @@ impl<'a> Lent<'a> {
         p: usize,
     ) -> usize
         requires { arity < 128 }
-        ensures { RowTold self.entry.shapes.now self.entry.nodes.now self.entry.used bytes.old depth n j arity p result bytes.new }
+        ensures { RowTold self.now.shapes.now self.now.nodes.now self.now.used bytes.old depth n j arity p result bytes.new }
     {
         if arity <= j {
             return p;

@@ -11,12 +11,12 @@ use borrow.Author.Tests.{eqb-true, eq-eqb, ne_eqb}
 use lib.ListN.{length, get_or, set, take, drop, replicate, get_or-append, length-replicate, length-set, get_or-replicate, replicate-append-replicate}
 use lib.Seq.{drop-cons, drop-length, get_or-set_same, get_or-set_other, ext_get_or}
 use Rattle.limits.specs.Sizes.{most_symbols, sorts_of_a_byte}
-use Rattle.reading.specs.Reading.{Reading, got}
+use Rattle.reading.specs.Reading.{Reading, got, refusal}
 use Rattle.reading.specs.Answer.{keeping}
 use Rattle.symbols.specs.Symbols.{Symbol, Symbols, no_symbol, symbol_of, is_constructor_of, constructors_of}
 use Rattle.symbols.specs.SymbolPart.{symbol_part}
 use Rattle.symbols.specs.Table.{symbols_in, in_array, ranks_from, first_from, nexts_from, firsts_from, places_after, ranks_after, nexts_after, firsts_after}
-use Rattle.symbol_part.proofs.PartWays.{PartKept, part-read}
+use Rattle.symbol_part.proofs.PartWays.{PartKept, part-refused, part-read}
 
 -- ---- where a chain stops
 
@@ -192,9 +192,15 @@ WholeAnswered bs r places ranks next first =
     (r ≡ keeping length (symbol_part bs)) × (places ≡ places_after (symbol_part bs)) × (ranks ≡ ranks_after (symbol_part bs))
     × (next ≡ nexts_after (symbol_part bs)) × (first ≡ firsts_after (symbol_part bs))
 
-module _ (bs : List ℕ) {places ranks next first : List ℕ} where
+module _ (bs : List ℕ) where
+  -- the part is refused: there are zeros
+  pub whole-refused : {c q : ℕ} → symbol_part bs ≡ refusal c q
+      → WholeAnswered bs (refusal c q) (replicate most_symbols 0) (replicate most_symbols 0) (replicate most_symbols 0) (replicate sorts_of_a_byte 0)
+  unfolding places_after ranks_after nexts_after firsts_after in_array
+  whole-refused refused = (part-refused bs refused, rw refused, rw refused, rw refused, rw refused)
+
   -- the part is read: with the ranks and the chains of its symbols this is what the code has to give
-  pub whole-read : {count end : ℕ} → PartKept bs count end places
+  pub whole-read : {places ranks next first : List ℕ} {count end : ℕ} → PartKept bs count end places
       → ranks ≡ in_array (ranks_from (symbols_in bs (take count places)) 0 (symbols_in bs (take count places)))
       → next ≡ in_array (nexts_from (symbols_in bs (take count places)) 0)
       → first ≡ firsts_from (symbols_in bs (take count places)) sorts_of_a_byte 0

@@ -2,6 +2,7 @@
 #![tactic(auto)]
 
 ghost use Rattle.std.specs.Prelude.{◌≡◌, ℕ, ◌+◌, ◌-◌, ◌<◌, ◌≤◌, length, get_or, IfOk};
+ghost use Rattle.reading.specs.Reading.{got};
 ghost use Rattle.symbol_part.specs.declared.SymbolPart.{SymbolPart};
 ghost use Rattle.limits.specs.Sizes.{most_book_bytes, most_symbols, sorts_of_a_byte};
 ghost use Rattle.reading.specs.Answer.{behind_of, reading_of, reading_by, keeping, nothing};
@@ -20,6 +21,17 @@ use symbols::table::{is_operation, sort_of};
 pub struct Chain {
     pub next: [u16; Limits::SYMBOLS],
     pub first: [u16; Limits::SORTS_OF_A_BYTE],
+}
+
+// The symbol part of a book as it was read: how many symbols there are and the place behind them, or the refusal; the place of each symbol;
+// which of its sort's constructors each is; and the chains of constructors. After a refusal all arrays are zeros. They stand beside the
+// reading, not in a Result, where they would be cleared and copied once more.
+#[derive(Clone, Copy)]
+pub struct SymbolRows {
+    pub reading: Reading,
+    pub at: [u16; Limits::SYMBOLS],
+    pub ranks: [u16; Limits::SYMBOLS],
+    pub chain: Chain,
 }
 
 // The symbol part of a book: how many symbols there are and the place behind them; the place of each symbol; which of its sort's
@@ -147,15 +159,69 @@ fn chain_of(book: &[u8], at: &[u16]) -> Chain
     Chain { next, first }
 }
 
+// The rows of the symbols from q to the part's end e.
+fn rows_of(book: &[u8], e: usize, q: usize) -> SymbolRows
+    requires { got e q ≡ opened book.now }
+    ensures { (reading_of result.reading ≡ keeping length (symbol_part book.now)) × (result.at ≡ places_after (symbol_part book.now)) × (result.ranks ≡ ranks_after (symbol_part book.now)) × (result.chain.next ≡ nexts_after (symbol_part book.now)) × (result.chain.first ≡ firsts_after (symbol_part book.now)) }
+{
+    let mut at = [0u16; Limits::SYMBOLS];
+    match read_symbols(book, e, 0, q, &mut at) {
+        Ok((count, next)) => {
+            let places = &at[..count];
+            let ranks = ranks_of(book, places);
+            let chain = chain_of(book, places);
+            SymbolRows {
+                reading: Ok((count, next)),
+                at,
+                ranks,
+                chain,
+            }
+        }
+        Err(r) => {
+            let chain = Chain {
+                next: [0; Limits::SYMBOLS],
+                first: [0; Limits::SORTS_OF_A_BYTE],
+            };
+            SymbolRows {
+                reading: Err(r),
+                at: [0u16; Limits::SYMBOLS],
+                ranks: [0u16; Limits::SYMBOLS],
+                chain,
+            }
+        }
+    }
+}
+
+pub fn symbol_rows(book: &[u8]) -> SymbolRows
+    ensures { (reading_of result.reading ≡ keeping length (symbol_part book.now)) × (result.at ≡ places_after (symbol_part book.now)) × (result.ranks ≡ ranks_after (symbol_part book.now)) × (result.chain.next ≡ nexts_after (symbol_part book.now)) × (result.chain.first ≡ firsts_after (symbol_part book.now)) }
+{
+    match open_part(book) {
+        Ok((e, q)) => rows_of(book, e, q),
+        Err(refusal) => {
+            let chain = Chain {
+                next: [0; Limits::SYMBOLS],
+                first: [0; Limits::SORTS_OF_A_BYTE],
+            };
+            SymbolRows {
+                reading: Err(refusal),
+                at: [0; Limits::SYMBOLS],
+                ranks: [0; Limits::SYMBOLS],
+                chain,
+            }
+        }
+    }
+}
+
+// The same in one Result, for a caller that minds no copy.
 pub fn read_symbol_part(book: &[u8]) -> Result<SymbolPart, Refusal>
     ensures reading { reading_by (λ (part : SymbolPart). (part.count, part.next)) result ≡ keeping length (symbol_part book.now) }
     ensures arrays { IfOk result (λ (part : SymbolPart). (part.at ≡ places_after (symbol_part book.now)) × (part.ranks ≡ ranks_after (symbol_part book.now)) × (part.chain.next ≡ nexts_after (symbol_part book.now)) × (part.chain.first ≡ firsts_after (symbol_part book.now))) }
 {
-    let (e, q) = open_part(book)?;
-    let mut at = [0u16; Limits::SYMBOLS];
-    let (count, next) = read_symbols(book, e, 0, q, &mut at)?;
-    let ranks = ranks_of(book, &at[0..count]);
-    let chain = chain_of(book, &at[0..count]);
+    let rows = symbol_rows(book);
+    let (count, next) = rows.reading?;
+    let at = rows.at;
+    let ranks = rows.ranks;
+    let chain = rows.chain;
     Ok(SymbolPart {
         count,
         next,

@@ -1,10 +1,11 @@
 // What programs over tables of cases share: how the input is read, the fields of a row, checksums of memory, and how numbers and bytes are printed.
 #![tactic(auto)]
 
-ghost use Rattle.std.specs.Prelude.{◌≡◌, ◌+◌, ◌*◌, ◌%◌, ◌<◌, ◌≤◌, min, length, take, drop, IfOk};
+ghost use Rattle.std.specs.Prelude.{◌≡◌, ◌+◌, ◌-◌, ◌*◌, ◌%◌, ◌<◌, ◌≤◌, min, length, take, drop, IfOk};
 ghost use Rattle.std.specs.Io.KnownBytes.{Consumes, IsAtEnd};
 ghost use Rattle.reading.specs.Bytes.{big_endian};
 ghost use Rattle.tables.specs.Checksum.{mixing, checksum, ChecksumBy};
+ghost use Rattle.tables.specs.Rows.{TakesSome};
 
 use reading::number;
 use std::io::Read;
@@ -40,6 +41,7 @@ impl<'a> Fields<'a> {
     pub fn bytes(&mut self, n: usize) -> &'a [u8]
         ensures first { result.now ≡ take n self.old.left.now }
         ensures rest { self.new.left.now ≡ drop n self.old.left.now }
+        ensures fewer { length self.new.left.now ≤ length self.old.left.now - n }
     {
         let (first, rest) = self.left.split_at(n.min(self.left.len()));
         self.left = rest;
@@ -50,6 +52,7 @@ impl<'a> Fields<'a> {
     pub fn field(&mut self) -> &'a [u8]
         ensures first { result.now ≡ drop 2 (take (2 + big_endian self.old.left.now 0) self.old.left.now) }
         ensures rest { self.new.left.now ≡ drop (2 + big_endian self.old.left.now 0) self.old.left.now }
+        ensures some { TakesSome self.old self.new }
     {
         let field = self.bytes(2 + number(self.left, 0));
         &field[field.len().min(2)..]
@@ -59,6 +62,7 @@ impl<'a> Fields<'a> {
     pub fn number(&mut self) -> usize
         ensures first { result ≡ big_endian self.old.left.now 0 }
         ensures rest { self.new.left.now ≡ drop 2 self.old.left.now }
+        ensures some { TakesSome self.old self.new }
     {
         let n = number(self.left, 0);
         self.bytes(2);
@@ -69,6 +73,7 @@ impl<'a> Fields<'a> {
     pub fn long_number(&mut self) -> u32
         ensures first { result ≡ big_endian self.old.left.now 0 * 65536 + big_endian self.old.left.now 2 }
         ensures rest { self.new.left.now ≡ drop 4 self.old.left.now }
+        ensures some { TakesSome self.old self.new }
     {
         let n = number(self.left, 0) * 65536 + number(self.left, 2);
         self.bytes(4);
@@ -129,22 +134,24 @@ pub fn show_item(rt: &impl Print, n: impl fmt::Display + Drop) -> io::Result<()>
 // Bytes in hexadecimal, 32 to a line.
 pub fn show_hex(rt: &impl Print, bytes: &[u8]) -> io::Result<()> {
     for line in bytes.chunks(32) {
-        println!(rt; "{}", Hex(line))?;
+        show_hex_line(rt, line)?;
     }
     Ok(())
 }
 
-// Two digits for each byte.
-#[derive(Clone, Copy)]
-struct Hex<'a>(&'a [u8]);
-
-impl fmt::Display for Hex<'_> {
-    fn fmt<W: fmt::Write>(&self, f: &mut fmt::Formatter<W>) -> fmt::Result {
-        for b in self.0 {
-            write!(f, "{b:02x}")?;
-        }
-        Ok(())
+// Two digits for each byte, up to 32 of them. They are laid by hand: with a formatted `{b:02x}` for each, `convert` took two to three times the instructions.
+fn show_hex_line(rt: &impl Print, bytes: &[u8]) -> io::Result<()> {
+    // A newline stands behind the digits, as in all that holds none.
+    let mut line = [b'\n'; 65];
+    for (i, b) in bytes.iter().take(32).enumerate() {
+        line[2 * i] = digit(*b / 16);
+        line[2 * i + 1] = digit(*b % 16);
     }
+    rt.write_all(&line[..2 * bytes.len().min(32) + 1])
+}
+
+fn digit(d: u8) -> u8 {
+    if d < 10 { b'0' + d } else { b'a' - 10 + d % 16 }
 }
 
 // At the numbers that a memory holds the checksum is that of the numbers themselves.

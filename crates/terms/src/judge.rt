@@ -351,12 +351,12 @@ fn mix_of(s: &[u8], from: usize, until: usize) -> usize
     h
 }
 
-// Which of two mirrors a line is.
+// Which of two mirrors a line is. The number goes into the line's key.
 #[derive(Clone, Copy)]
 enum Side {
-    Neither,
-    Broader,
-    Narrower,
+    Broader = 1,
+    Narrower = 2,
+    Neither = 3,
 }
 
 impl Side {

@@ -11,9 +11,9 @@ use super::Refusal;
 use super::put::{put_byte, put_two};
 use super::rows::count_rows;
 use super::trees::byte_of;
-use book::{read_book, rows_read};
+use book::{index_book, rows_read};
 use limits::Limits;
-use symbol_part::read_symbol_part;
+use symbol_part::symbol_rows;
 use symbols::table::arity_of;
 
 // A book that is made: how many bytes were put, and those that an array as long as the longest book holds. There is no heap.
@@ -76,7 +76,9 @@ fn with_trees(mut made: Made, arities: &[u8], trees: &[u16], count: usize) -> Re
     if Limits::BOOK < size {
         return Err(Refusal::NotABook { row: count });
     }
-    match read_book(&made.bytes[..size]) {
+    let index = index_book(&made.bytes[..size]);
+    let reading = index.reading;
+    match reading {
         Ok(_) => Ok(made),
         Err(_) => Err(Refusal::NotABook {
             row: rows_read(&made.bytes[..size]),
@@ -94,11 +96,13 @@ pub(crate) fn made_of(symbols: &[u16], trees: &[u16]) -> Result<Made, Refusal>
     }
     let made = front_of(symbols);
     let front = made.size;
-    match read_symbol_part(&made.bytes[..front]) {
-        Ok(part) => {
-            let at = &part.at[..part.count];
-            let arities = arities_of(&made.bytes[..front], at);
-            with_trees(made, &arities[..part.count], trees, count)
+    let part = symbol_rows(&made.bytes[..front]);
+    let reading = part.reading;
+    match reading {
+        Ok((many, _)) => {
+            let at = part.at;
+            let arities = arities_of(&made.bytes[..front], &at[..many]);
+            with_trees(made, &arities[..many], trees, count)
         }
         Err(_) => Err(Refusal::NotABook {
             row: rows_read(&made.bytes[..front]),

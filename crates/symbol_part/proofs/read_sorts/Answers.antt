@@ -1,5 +1,4 @@
 -- `read_sorts` meets its contract: one sort is tested after the other.
-use mathlib.Core.List.{List}
 use mathlib.Core.Path.{◌≡◌, sym, ap, ◌∙◌}
 use Rattle.reading.specs.Reading.{got}
 use Prim.Native.Nat.{ℕ, ◌+◌, ◌-◌}

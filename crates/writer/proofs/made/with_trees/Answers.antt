@@ -6,6 +6,7 @@ use native.Mathlib.Omega.{arith}
 use Rattle.std.proofs.Common.{length-take-le}
 use lib.ListN.{length, take}
 use lib.Seq.{length-sets}
+use Rattle.reading.specs.Answer.{reading_of}
 use Rattle.writer.specs.Layout.{tree_part_bytes}
 use Rattle.writer.specs.Write.{made}
 use Rattle.writer.proofs.Making.{tree-part-long, whole_long, whole-put, too_large_lem, at_fault, admitted}
@@ -24,8 +25,8 @@ returns-then-size-gt-BOOK c =
     let trees = tree_part_bytes a.arities.now a.trees.now in
     too_large_lem a.count (take a.made.size a.made.bytes ++ trees) (omega (arith, c.put_trees.ensures.size, whole_long a.made.bytes a.made.size trees (omega arith)))
 
-pub slice_bounds-read_book-end : goal.slice_bounds-read_book-end
-slice_bounds-read_book-end c =
+pub slice_bounds-index_book-end : goal.slice_bounds-index_book-end
+slice_bounds-index_book-end c =
     let a = c.args in
     let put = ap length (c.put_trees.ensures.bytes (omega arith)) in
     let long = length-sets a.made.bytes a.made.size (tree_part_bytes a.arities.now a.trees.now) in
@@ -46,7 +47,7 @@ returns-in-Err c =
     let whole = take a.made.size a.made.bytes ++ trees in
     let small : length whole ≤ 32768 = omega (arith, put.size, whole_long a.made.bytes a.made.size trees (omega arith)) in
     let there = whole-put a.made.bytes a.made.size trees (omega arith) c.put_trees.new.self.bytes c.put_trees.new.self.size put.size (omega arith) (put.bytes (omega arith)) in
-    at_fault a.count whole small (rw there at c.in-Err.ensures.reading) (rw there at c.rows_read.ensures.0)
+    at_fault a.count whole small (ap reading_of (sym c.in-Err.is) ∙ (rw there at c.index_book-index.ensures).0) (rw there at c.rows_read.ensures.0)
 
 pub returns-in-Ok : goal.returns-in-Ok
 returns-in-Ok c =
@@ -56,5 +57,5 @@ returns-in-Ok c =
     let whole = take a.made.size a.made.bytes ++ trees in
     let small : length whole ≤ 32768 = omega (arith, put.size, whole_long a.made.bytes a.made.size trees (omega arith)) in
     let there = whole-put a.made.bytes a.made.size trees (omega arith) c.put_trees.new.self.bytes c.put_trees.new.self.size put.size (omega arith) (put.bytes (omega arith)) in
-    let reading = rw there at c.in-Ok.ensures.reading in
+    let reading = ap reading_of (sym c.in-Ok.is) ∙ (rw there at c.index_book-index.ensures).0 in
     (ap made there ∙ admitted a.count whole small reading, omega (arith, ap length (put.bytes (omega arith)), length-sets a.made.bytes a.made.size trees))

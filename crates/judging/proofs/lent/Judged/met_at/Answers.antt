@@ -6,10 +6,23 @@ use lib.ListN.{get_or}
 use Rattle.symbols.specs.Table.{symbols_in}
 use Rattle.accepted.specs.Read.{node_in}
 use Rattle.judging.specs.declared.said.Said.{Said}
-use Rattle.judging.specs.declared.said.Said.TheVariants.{Nothing}
+use Rattle.judging.specs.declared.said.Said.TheVariants.{Nothing, Several}
 use Rattle.judging.specs.Sorts.{met_by}
-use Rattle.judging.proofs.MetAt.{said_known, said_unknown, said_choice, said_forward, said_other}
+use borrow.Author.Rules.{rules}
+use Rattle.judging.proofs.MetAt.{said_several, said_known, said_unknown, said_choice, said_forward, said_other}
 use Rattle.judging.proofs.lent.Judged.met_at.Goals as goal
+
+pub returns-then-eq : goal.returns-then-eq
+returns-then-eq c =
+    let a = c.args in
+    let own = c.said_of-own in
+    let bs = a.self.book.now in
+    let table = a.self.table.now in
+    let m = a.self.nodes.now in
+    let met = a.met.now in
+    let several : own.result ≡ Several = search rules in
+    subst (λ (o : Said). own.result ≡ met_by (symbols_in bs table) met o (node_in (symbols_in bs table) m a.n)) own.ensures
+    (said_several bs table m met a.n own.result several)
 
 pub returns-then-f-self : goal.returns-then-f-self
 returns-then-f-self c =

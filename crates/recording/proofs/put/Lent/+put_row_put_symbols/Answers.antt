@@ -54,7 +54,7 @@ put_symbols-returns t c =
     some-at-apply held a.arrow node.result inside node.ensures a.depth c.if-depth-eq0.false
     (sym c.kind_at.ensures ∙ c.if-kind_at.false) in
     let label = c.label_at-f.ensures in
-    let many = arity.ensures.0 ∙ ap (arity_in a.self.shapes.now) label ∙ found.many in
+    let many = arity.ensures.0 ∙ ap (arity_in a.self.now.shapes.now) label ∙ found.many in
     let all = symbols_from a.depth h a.arrow in
     let row = row_from (symbols_from (a.depth - 1) h) (arguments (at h node.result)) in
     let named-first = found.symbols ∙ ap (λ f. f ∷ row) (sym label) in
